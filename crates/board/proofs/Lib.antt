@@ -1,0 +1,4 @@
+mod Every
+mod Owned
+mod Index
+mod Parted

@@ -1,0 +1,5 @@
+pub mod Meaning
+pub mod Cells
+pub mod Addresses
+pub mod Ports
+pub mod Split

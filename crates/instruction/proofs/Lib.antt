@@ -1,0 +1,2 @@
+mod Lookup
+pub mod Rows

@@ -1,0 +1,154 @@
+// Instructions as text: the mnemonic, and the operand as an assembler writes it.
+use crate::decoding::Instruction;
+use crate::table::Family;
+use crate::table::Kind;
+use crate::table::Op;
+use std::fmt;
+
+// How the operand of a family is written.
+#[derive(Clone, Copy)]
+enum Syntax {
+    Bare,
+    Top,
+    Next,
+    ReturnTop,
+    Byte,
+    Word,
+    Number,
+    Register,
+    Pointer,
+    Absolute,
+    Relative,
+    Indexed,
+    Deep,
+    LongJump,
+    ShortJump,
+}
+
+fn operation(op: Op) -> &'static str {
+    match op {
+        Op::Add => "ADD",
+        Op::And => "AND",
+        Op::Or => "OR",
+        Op::Xor => "XOR",
+    }
+}
+
+fn returning(op: Op) -> &'static str {
+    match op {
+        Op::Add => "ADD_R",
+        Op::And => "AND_R",
+        Op::Or => "OR_R",
+        Op::Xor => "XOR_R",
+    }
+}
+
+fn written(kind: Kind) -> (&'static str, Syntax) {
+    match kind {
+        Kind::Not => ("NOT", Syntax::Bare),
+        Kind::Increment => ("INC", Syntax::Bare),
+        Kind::Decrement => ("DEC", Syntax::Bare),
+        Kind::Binary(op) => (operation(op), Syntax::Bare),
+        Kind::AddCarry => ("ADC", Syntax::Bare),
+        Kind::Immediate(op) => (operation(op), Syntax::Byte),
+        Kind::BinaryReturn(op) => (returning(op), Syntax::Bare),
+        Kind::PushShort => ("PUSHS", Syntax::Number),
+        Kind::PushByte => ("PUSH", Syntax::Byte),
+        Kind::PushWord => ("PUSHD", Syntax::Word),
+        Kind::PushTop => ("PUSH", Syntax::Top),
+        Kind::PushNext => ("PUSH", Syntax::Next),
+        Kind::PushDeep => ("PUSH", Syntax::Deep),
+        Kind::PopDeep => ("POP", Syntax::Deep),
+        Kind::PushRegister => ("PUSH", Syntax::Register),
+        Kind::PopRegister => ("POP", Syntax::Register),
+        Kind::PushPointer => ("PUSHD", Syntax::Pointer),
+        Kind::PopPointer => ("POPD", Syntax::Pointer),
+        Kind::PushAbsolute => ("PUSH", Syntax::Absolute),
+        Kind::PopAbsolute => ("POP", Syntax::Absolute),
+        Kind::PushRelative => ("PUSH", Syntax::Relative),
+        Kind::PopRelative => ("POP", Syntax::Relative),
+        Kind::PushIndexed => ("PUSH", Syntax::Indexed),
+        Kind::PopIndexed => ("POP", Syntax::Indexed),
+        Kind::PushReturn => ("PUSH", Syntax::ReturnTop),
+        Kind::PushPop => ("PUSHPOP", Syntax::Bare),
+        Kind::PopPush => ("POPPUSH", Syntax::Bare),
+        Kind::Exchange => ("XCH", Syntax::Bare),
+        Kind::DropTop => ("DROP", Syntax::Top),
+        Kind::DropNext => ("DROP", Syntax::Next),
+        Kind::Allocate => ("ALLOC", Syntax::Number),
+        Kind::Deallocate => ("DEALLOC", Syntax::Number),
+        Kind::Branch => ("BR", Syntax::LongJump),
+        Kind::BranchNonzero => ("BRNZ", Syntax::LongJump),
+        Kind::BranchZero => ("BRZ", Syntax::LongJump),
+        Kind::ShortBranch => ("SBR", Syntax::ShortJump),
+        Kind::ShortBranchZero => ("SBRZ", Syntax::ShortJump),
+        Kind::ShortBranchNonzero => ("SBRNZ", Syntax::ShortJump),
+        Kind::CallFar => ("CALLF", Syntax::Absolute),
+        Kind::Ret => ("RET", Syntax::Bare),
+    }
+}
+
+// The family with its operand by letters: n a byte, w two, k a number, r a register, p a pointer, m a distance.
+pub impl fmt::Display for Family as FamilyDisplay {
+    fn fmt<W: fmt::Write>(&self, f: &mut fmt::Formatter<W>) -> fmt::Result {
+        let (mnemonic, syntax) = written(self.kind);
+        let operand = match syntax {
+            Syntax::Bare => "",
+            Syntax::Top => " TOS",
+            Syntax::Next => " NEXT",
+            Syntax::ReturnTop => " [RSP]",
+            Syntax::Byte => " #n",
+            Syntax::Word => " #w",
+            Syntax::Number => " #k",
+            Syntax::Register => " !r",
+            Syntax::Pointer => " [p]",
+            Syntax::Absolute => " w",
+            Syntax::Relative => " [p][n]",
+            Syntax::Indexed => " [p][TOS]",
+            Syntax::Deep => " [DSP][-k]",
+            Syntax::LongJump => " *+m",
+            Syntax::ShortJump => " *+m",
+        };
+        write!(f, "{mnemonic}{operand}")
+    }
+}
+
+// Bytes and addresses in hexadecimal; registers 8 to 23 and jumps, counted from the instruction itself, in decimal.
+pub impl fmt::Display for Instruction as InstructionDisplay {
+    fn fmt<W: fmt::Write>(&self, f: &mut fmt::Formatter<W>) -> fmt::Result {
+        let (mnemonic, syntax) = written(self.family.kind);
+        let number = self.number;
+        let byte = self.operand.byte();
+        let word = self.operand.word();
+        match syntax {
+            Syntax::Bare => write!(f, "{mnemonic}"),
+            Syntax::Top => write!(f, "{mnemonic} TOS"),
+            Syntax::Next => write!(f, "{mnemonic} NEXT"),
+            Syntax::ReturnTop => write!(f, "{mnemonic} [RSP]"),
+            Syntax::Byte => write!(f, "{mnemonic} #{byte:02X}"),
+            Syntax::Word => write!(f, "{mnemonic} #{word:04X}"),
+            Syntax::Number => write!(f, "{mnemonic} #{number}"),
+            Syntax::Register => {
+                let register = number as u16 + 8;
+                write!(f, "{mnemonic} !{register}")
+            }
+            Syntax::Pointer => write!(f, "{mnemonic} [P{number}]"),
+            Syntax::Absolute => write!(f, "{mnemonic} {word:04X}"),
+            Syntax::Relative => write!(f, "{mnemonic} [P{number}][{byte:02X}]"),
+            Syntax::Indexed => write!(f, "{mnemonic} [P{number}][TOS]"),
+            Syntax::Deep => write!(f, "{mnemonic} [DSP][-{number}]"),
+            Syntax::LongJump => {
+                let distance = if byte < 128 {
+                    byte as i16 + 2
+                } else {
+                    byte as i16 - 254
+                };
+                write!(f, "{mnemonic} *{distance:+}")
+            }
+            Syntax::ShortJump => {
+                let distance = number as u16 + 1;
+                write!(f, "{mnemonic} *+{distance}")
+            }
+        }
+    }
+}

@@ -1,0 +1,3 @@
+mod Heaped
+mod Steps
+mod Agree
