@@ -10,21 +10,17 @@ use Rattle.std.proofs.shelf.Tests.{leb-true, eqb-true, cond-true, cond-false, c
 use Rattle.std.specs.shelf.Lists.{All}
 use Rattle.std.specs.declared.option.Option.{Option}
 use Rattle.std.specs.declared.option.Option.the-variants.{Some, None}
-use Rattle.instruction.specs.declared.table.Count.{Count}
-use Rattle.instruction.specs.declared.table.Count.the-variants.{Fixed, Plus}
 use Rattle.instruction.specs.declared.table.Place.the-variants.{Absolute, Relative, Indexed}
 use Rattle.instruction.specs.declared.table.Memory.{Memory}
 use Rattle.instruction.specs.declared.table.Memory.the-variants.{Nowhere, Read, Write}
 use Rattle.instruction.specs.declared.table.Turn.{Turn}
 use Rattle.instruction.specs.declared.table.Turn.the-variants.{On, Jump, IfZero, IfNonzero, Call, Return}
-use Rattle.instruction.specs.declared.table.Numbering.{Numbering}
-use Rattle.instruction.specs.declared.table.Numbering.the-variants.{Rising, Falling}
 use Rattle.instruction.specs.declared.table.Family.{Family}
 use Rattle.instruction.specs.declared.decoding.Operand.{Operand}
 use Rattle.instruction.specs.declared.decoding.Operand.the-variants.{Empty, Byte, Word}
 use Rattle.instruction.specs.declared.decoding.Instruction.{Instruction}
 use Rattle.instruction.specs.Decode.{operand-size, one-byte, two-bytes, operand-of, with-operand, with-family, decoded, Listed}
-use Rattle.instruction.specs.Table.{families, row-of, holds, found, numbered, highest, top-number}
+use Rattle.instruction.specs.Table.{families, row-of, holds, found}
 
 pub some-same : {A : Type 0} (x y : A) → Some x ≡ Some y → x ≡ y
 some-same x y e = cc
@@ -42,10 +38,6 @@ found-has P (g ∷ gs) opcode f all e =
     subst (λ (x : Family). P x × (holds x opcode ≡ true)) same (all .0, on))
     (λ off. found-has P gs opcode f (all .1) (sym (cond-false (holds g opcode) (Some g) (found gs opcode) off) ∙ e))
     (cases-bool (holds g opcode))
-
-abbrev pub least : Count → ℕ
-least (Fixed n) = n
-least (Plus n) = n
 
 -- the pointer is one of four, and the bytes that the access reads are among those needed
 abbrev pub reaches? : Memory → ℕ → ℕ → Bool
@@ -69,9 +61,7 @@ turns? Return needs takes gives = eqb takes 2 && eqb gives 0
 abbrev pub sound : Family → Bool
 sound f =
     leb 1 (f .cycles)
-    && (leb (top-number f) 255
-    && (reaches? (f .memory) (top-number f) (least (f .needs))
-    && turns? (f .turn) (least (f .needs)) (f .takes) (f .gives)))
+    && (reaches? (f .memory) (f .last - f .first) (f .needs) && turns? (f .turn) (f .needs) (f .takes) (f .gives))
 
 -- a row is its kind's, and passes the test
 abbrev pub Sound : Family → Type 0
@@ -79,7 +69,7 @@ Sound f = (f ≡ row-of (f .kind)) × (sound f ≡ true)
 
 all-sound : All Sound families
 unfolding families
-all-sound = ((refl, refl), ((refl, refl), ((refl, refl), ((refl, refl), ((refl, refl), ((refl, refl), ((refl, refl), ((refl, refl), ((refl, refl), ((refl, refl), ((refl, refl), ((refl, refl), ((refl, refl), ((refl, refl), ((refl, refl), ((refl, refl), ((refl, refl), ((refl, refl), ((refl, refl), ((refl, refl), ((refl, refl), ((refl, refl), ((refl, refl), ((refl, refl), ((refl, refl), ((refl, refl), ((refl, refl), ((refl, refl), ((refl, refl), ((refl, refl), ((refl, refl), ((refl, refl), ((refl, refl), ((refl, refl), ((refl, refl), ((refl, refl), ((refl, refl), ((refl, refl), ((refl, refl), ((refl, refl), ((refl, refl), ((refl, refl), ((refl, refl), ((refl, refl), ((refl, refl), ((refl, refl), ((refl, refl), ((refl, refl), ((refl, refl), tt)))))))))))))))))))))))))))))))))))))))))))))))))
+all-sound = ((refl, refl), ((refl, refl), ((refl, refl), ((refl, refl), ((refl, refl), ((refl, refl), ((refl, refl), ((refl, refl), ((refl, refl), ((refl, refl), ((refl, refl), ((refl, refl), ((refl, refl), ((refl, refl), ((refl, refl), ((refl, refl), ((refl, refl), ((refl, refl), ((refl, refl), ((refl, refl), ((refl, refl), ((refl, refl), ((refl, refl), ((refl, refl), ((refl, refl), ((refl, refl), ((refl, refl), ((refl, refl), ((refl, refl), ((refl, refl), ((refl, refl), ((refl, refl), ((refl, refl), ((refl, refl), ((refl, refl), ((refl, refl), ((refl, refl), ((refl, refl), ((refl, refl), ((refl, refl), ((refl, refl), ((refl, refl), ((refl, refl), ((refl, refl), ((refl, refl), ((refl, refl), ((refl, refl), ((refl, refl), ((refl, refl), ((refl, refl), ((refl, refl), ((refl, refl), ((refl, refl), ((refl, refl), ((refl, refl), ((refl, refl), ((refl, refl), ((refl, refl), ((refl, refl), ((refl, refl), ((refl, refl), ((refl, refl), ((refl, refl), ((refl, refl), ((refl, refl), ((refl, refl), ((refl, refl), ((refl, refl), ((refl, refl), ((refl, refl), ((refl, refl), ((refl, refl), ((refl, refl), ((refl, refl), ((refl, refl), ((refl, refl), ((refl, refl), tt)))))))))))))))))))))))))))))))))))))))))))))))))))))))))))))))))))))))))))))
 
 pub found-sound : (opcode : ℕ) (f : Family) → found families opcode ≡ Some f → Sound f × (holds f opcode ≡ true)
 found-sound opcode f e = found-has Sound families opcode f all-sound e
@@ -87,24 +77,14 @@ found-sound opcode f e = found-has Sound families opcode f all-sound e
 -- what the test says of each row
 pub record Rule (f : Family) : Type 0 where
   pub cycles : 1 ≤ f .cycles
-  pub fits : top-number f ≤ 255
-  pub reaches : reaches? (f .memory) (top-number f) (least (f .needs)) ≡ true
-  pub turns : turns? (f .turn) (least (f .needs)) (f .takes) (f .gives) ≡ true
+  pub reaches : reaches? (f .memory) (f .last - f .first) (f .needs) ≡ true
+  pub turns : turns? (f .turn) (f .needs) (f .takes) (f .gives) ≡ true
 
 pub rule : (f : Family) → sound f ≡ true → Rule f
 rule f e =
     let a = and-parts (leb 1 (f .cycles)) _ e in
-    let b = and-parts (leb (top-number f) 255) _ (a .1) in
-    let d = and-parts (reaches? (f .memory) (top-number f) (least (f .needs))) _ (b .1) in
-    record { cycles = leb-true 1 (f .cycles) (a .0); fits = leb-true (top-number f) 255 (b .0); reaches = d .0; turns = d .1 }
-
-numbered-low : (x : Numbering) (k n : ℕ) → k ≤ n → numbered x k ≤ highest x n
-numbered-low (Rising m) k n h = omega arith
-numbered-low (Falling m) k n h = omega arith
-
--- the numbers in the opcodes of a family
-pub number-low : (f : Family) (k : ℕ) → k ≤ f .last - f .first → numbered (f .numbering) k ≤ top-number f
-number-low f k h = numbered-low (f .numbering) k (f .last - f .first) h
+    let b = and-parts (reaches? (f .memory) (f .last - f .first) (f .needs)) _ (a .1) in
+    record { cycles = leb-true 1 (f .cycles) (a .0); reaches = b .0; turns = b .1 }
 
 -- what is decoded is in the table
 
@@ -145,7 +125,7 @@ listed-decoded (opcode ∷ after) i e = listed-family (found families opcode) op
 pub record Rowed (i : Instruction) : Type 0 where
   pub row : i .family ≡ row-of (i .family .kind)
   pub rule : Rule (i .family)
-  pub low : i .number ≤ top-number (i .family)
+  pub low : i .number ≤ i .family .last - i .family .first
 
 pub rowed : (i : Instruction) → Listed i → Rowed i
 rowed i l =
@@ -153,5 +133,5 @@ rowed i l =
     let both = and-parts (leb (i .family .first) (l .opcode)) (leb (l .opcode) (i .family .last)) (s .1) in
     let first = leb-true (i .family .first) (l .opcode) (both .0) in
     let last = leb-true (l .opcode) (i .family .last) (both .1) in
-    let low = number-low (i .family) (l .opcode - i .family .first) (omega arith) in
-    record { row = s .0 .0; rule = rule (i .family) (s .0 .1); low = rw (l .number) low }
+    let number = l .number in
+    record { row = s .0 .0; rule = rule (i .family) (s .0 .1); low = omega arith }

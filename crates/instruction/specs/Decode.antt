@@ -10,7 +10,7 @@ use Rattle.instruction.specs.declared.table.Family.{Family}
 use Rattle.instruction.specs.declared.decoding.Operand.{Operand}
 use Rattle.instruction.specs.declared.decoding.Operand.the-variants.{Empty, Byte, Word}
 use Rattle.instruction.specs.declared.decoding.Instruction.{Instruction}
-use Rattle.instruction.specs.Table.{families, found, numbered, counted}
+use Rattle.instruction.specs.Table.{families, found}
 
 -- the bytes of an instruction with this operand, its opcode among them
 abbrev pub operand-size : Operand → ℕ
@@ -45,7 +45,7 @@ operand-of size after = cond (eqb size 1) (Some Empty) (cond (eqb size 2) (one-b
 
 abbrev pub with-operand : Family → ℕ → Option Operand → Option Instruction
 with-operand f opcode None = None
-with-operand f opcode (Some x) = Some (record { family = f; number = numbered (f .numbering) (opcode - f .first); operand = x })
+with-operand f opcode (Some x) = Some (record { family = f; number = opcode - f .first; operand = x })
 
 abbrev pub with-family : Option Family → ℕ → List ℕ → Option Instruction
 with-family None opcode after = None
@@ -56,16 +56,9 @@ abbrev pub decoded : List ℕ → Option Instruction
 decoded [] = None
 decoded (opcode ∷ after) = with-family (found families opcode) opcode after
 
--- the data bytes needed and left
-abbrev pub needed : Instruction → ℕ
-needed i = counted (i .family .needs) (i .number)
-
-abbrev pub left : Instruction → ℕ
-left i = counted (i .family .leaves) (i .number)
-
 -- an instruction that the table has: its family and its number are those of an opcode, and its operand has the family's size
 pub record Listed (i : Instruction) : Type 0 where
   pub opcode : ℕ
   pub family : found families opcode ≡ Some (i .family)
-  pub number : i .number ≡ numbered (i .family .numbering) (opcode - i .family .first)
+  pub number : i .number ≡ opcode - i .family .first
   pub sized : operand-size (i .operand) ≡ i .family .size

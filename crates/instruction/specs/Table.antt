@@ -10,10 +10,6 @@ use Rattle.instruction.specs.declared.table.Op.{Op}
 use Rattle.instruction.specs.declared.table.Op.the-variants.{Add, And, Or, Xor}
 use Rattle.instruction.specs.declared.table.Kind.{Kind}
 use Rattle.instruction.specs.declared.table.Kind.the-variants.{Not, Increment, Decrement, Binary, AddCarry, Immediate, BinaryReturn, PushShort, PushByte, PushWord, PushTop, PushNext, PushDeep, PopDeep, PushRegister, PopRegister, PushPointer, PopPointer, PushAbsolute, PopAbsolute, PushRelative, PopRelative, PushIndexed, PopIndexed, PushReturn, PushPop, PopPush, Exchange, DropTop, DropNext, Allocate, Deallocate, Branch, BranchNonzero, BranchZero, ShortBranch, ShortBranchZero, ShortBranchNonzero, CallFar, Ret}
-use Rattle.instruction.specs.declared.table.Numbering.{Numbering}
-use Rattle.instruction.specs.declared.table.Numbering.the-variants.{Rising, Falling}
-use Rattle.instruction.specs.declared.table.Count.{Count}
-use Rattle.instruction.specs.declared.table.Count.the-variants.{Fixed, Plus}
 use Rattle.instruction.specs.declared.table.Place.the-variants.{Absolute, Relative, Indexed}
 use Rattle.instruction.specs.declared.table.Memory.{Memory}
 use Rattle.instruction.specs.declared.table.Memory.the-variants.{Nowhere, Read, Write}
@@ -27,36 +23,36 @@ use Rattle.instruction.specs.declared.table.Family.{Family}
 -- How a row is written down.
 
 -- one opcode, its size, its cycles, and the data bytes that it needs and leaves; the next instruction follows
-abbrev one : Kind → ℕ → ℕ → ℕ → Count → Count → Family
+abbrev one : Kind → ℕ → ℕ → ℕ → ℕ → ℕ → Family
 one kind opcode size cycles needs leaves = record {
-  kind = kind; first = opcode; last = opcode; numbering = Rising 0; size = size; cycles = cycles; needs = needs; leaves = leaves;
+  kind = kind; first = opcode; last = opcode; size = size; cycles = cycles; needs = needs; leaves = leaves;
   takes = 0; gives = 0; memory = Nowhere; turn = On; transfer = Other }
 
--- up to another opcode, with the numbers that they hold
-abbrev upto : ℕ → Numbering → Family → Family
-upto last numbering f = record {
-  kind = f .kind; first = f .first; last = last; numbering = numbering; size = f .size; cycles = f .cycles; needs = f .needs; leaves = f .leaves;
+-- up to another opcode
+abbrev upto : ℕ → Family → Family
+upto last f = record {
+  kind = f .kind; first = f .first; last = last; size = f .size; cycles = f .cycles; needs = f .needs; leaves = f .leaves;
   takes = f .takes; gives = f .gives; memory = f .memory; turn = f .turn; transfer = f .transfer }
 
 -- the bytes that it needs and leaves on the return stack
 abbrev on-return-stack : ℕ → ℕ → Family → Family
 on-return-stack takes gives f = record {
-  kind = f .kind; first = f .first; last = f .last; numbering = f .numbering; size = f .size; cycles = f .cycles; needs = f .needs; leaves = f .leaves;
+  kind = f .kind; first = f .first; last = f .last; size = f .size; cycles = f .cycles; needs = f .needs; leaves = f .leaves;
   takes = takes; gives = gives; memory = f .memory; turn = f .turn; transfer = f .transfer }
 
 abbrev in-memory : Memory → Family → Family
 in-memory memory f = record {
-  kind = f .kind; first = f .first; last = f .last; numbering = f .numbering; size = f .size; cycles = f .cycles; needs = f .needs; leaves = f .leaves;
+  kind = f .kind; first = f .first; last = f .last; size = f .size; cycles = f .cycles; needs = f .needs; leaves = f .leaves;
   takes = f .takes; gives = f .gives; memory = memory; turn = f .turn; transfer = f .transfer }
 
 abbrev turning : Turn → Family → Family
 turning turn f = record {
-  kind = f .kind; first = f .first; last = f .last; numbering = f .numbering; size = f .size; cycles = f .cycles; needs = f .needs; leaves = f .leaves;
+  kind = f .kind; first = f .first; last = f .last; size = f .size; cycles = f .cycles; needs = f .needs; leaves = f .leaves;
   takes = f .takes; gives = f .gives; memory = f .memory; turn = turn; transfer = f .transfer }
 
 abbrev moving : Transfer → Family → Family
 moving transfer f = record {
-  kind = f .kind; first = f .first; last = f .last; numbering = f .numbering; size = f .size; cycles = f .cycles; needs = f .needs; leaves = f .leaves;
+  kind = f .kind; first = f .first; last = f .last; size = f .size; cycles = f .cycles; needs = f .needs; leaves = f .leaves;
   takes = f .takes; gives = f .gives; memory = f .memory; turn = f .turn; transfer = transfer }
 
 -- the order in which the operations' opcodes stand
@@ -68,46 +64,46 @@ rank Xor = 3
 
 -- each kind's row: its opcode, size, cycles, data bytes needed and left, and what else there is
 abbrev pub row-of : Kind → Family
-row-of Not = one Not 0x3D 1 2 (Fixed 1) (Fixed 1)
-row-of Increment = one Increment 0x3E 1 2 (Fixed 1) (Fixed 1)
-row-of Decrement = one Decrement 0x3F 1 2 (Fixed 1) (Fixed 1)
-row-of (Binary o) = one (Binary o) (0x50 + rank o) 1 4 (Fixed 2) (Fixed 1)
-row-of AddCarry = one AddCarry 0x54 1 4 (Fixed 2) (Fixed 1)
-row-of (Immediate o) = one (Immediate o) (0x58 + rank o) 2 3 (Fixed 1) (Fixed 1)
-row-of (BinaryReturn o) = turning Return (on-return-stack 2 0 (one (BinaryReturn o) (0x5C + rank o) 1 7 (Fixed 2) (Fixed 1)))
-row-of PushShort = upto 0x87 (Rising 0) (one PushShort 0x80 1 4 (Fixed 0) (Fixed 1))
-row-of PushByte = one PushByte 0xB4 2 4 (Fixed 0) (Fixed 1)
-row-of PushWord = moving PutsWord (one PushWord 0xB5 3 6 (Fixed 0) (Fixed 2))
-row-of PushTop = one PushTop 0xA4 1 3 (Fixed 1) (Fixed 2)
-row-of PushNext = one PushNext 0xA5 1 4 (Fixed 2) (Fixed 3)
-row-of PushDeep = upto 0xBF (Falling 8) (one PushDeep 0xB8 1 5 (Plus 2) (Plus 3))
-row-of PopDeep = upto 0xFF (Falling 8) (one PopDeep 0xF8 1 5 (Plus 2) (Plus 1))
-row-of PushRegister = upto 0x97 (Rising 0) (one PushRegister 0x88 1 4 (Fixed 0) (Fixed 1))
-row-of PopRegister = upto 0xD7 (Rising 0) (one PopRegister 0xC8 1 4 (Fixed 1) (Fixed 0))
-row-of PushPointer = upto 0xB3 (Rising 0) (one PushPointer 0xB0 1 6 (Fixed 0) (Fixed 2))
-row-of PopPointer = moving LoadsPointer (upto 0xF3 (Rising 0) (one PopPointer 0xF0 1 6 (Fixed 2) (Fixed 0)))
-row-of PushAbsolute = in-memory (Read Absolute) (one PushAbsolute 0xB7 3 7 (Fixed 0) (Fixed 1))
-row-of PopAbsolute = in-memory (Write Absolute) (one PopAbsolute 0xF7 3 7 (Fixed 1) (Fixed 0))
-row-of PushRelative = in-memory (Read Relative) (upto 0x9B (Rising 0) (one PushRelative 0x98 2 7 (Fixed 0) (Fixed 1)))
-row-of PopRelative = in-memory (Write Relative) (upto 0xDB (Rising 0) (one PopRelative 0xD8 2 7 (Fixed 1) (Fixed 0)))
-row-of PushIndexed = in-memory (Read Indexed) (upto 0x9F (Rising 0) (one PushIndexed 0x9C 1 6 (Fixed 1) (Fixed 2)))
-row-of PopIndexed = in-memory (Write Indexed) (upto 0xDF (Rising 0) (one PopIndexed 0xDC 1 6 (Fixed 2) (Fixed 1)))
-row-of PushReturn = on-return-stack 1 1 (one PushReturn 0xA1 1 4 (Fixed 0) (Fixed 1))
-row-of PushPop = on-return-stack 1 0 (one PushPop 0xA7 1 5 (Fixed 0) (Fixed 1))
-row-of PopPush = on-return-stack 0 1 (one PopPush 0xE7 1 5 (Fixed 1) (Fixed 0))
-row-of Exchange = one Exchange 0xB6 1 4 (Fixed 2) (Fixed 2)
-row-of DropTop = one DropTop 0xE4 1 3 (Fixed 1) (Fixed 0)
-row-of DropNext = one DropNext 0xE5 1 2 (Fixed 2) (Fixed 1)
-row-of Allocate = upto 0xC7 (Rising 1) (one Allocate 0xC0 1 3 (Fixed 0) (Plus 0))
-row-of Deallocate = turning Return (on-return-stack 2 0 (upto 0x7F (Falling 8) (one Deallocate 0x78 1 6 (Plus 0) (Fixed 0))))
-row-of Branch = turning (Jump Long) (one Branch 0x71 2 2 (Fixed 0) (Fixed 0))
-row-of BranchNonzero = turning (IfNonzero Long) (one BranchNonzero 0x72 2 4 (Fixed 1) (Fixed 0))
-row-of BranchZero = turning (IfZero Long) (one BranchZero 0x73 2 4 (Fixed 1) (Fixed 0))
-row-of ShortBranch = turning (Jump Short) (upto 0x2F (Rising 0) (one ShortBranch 0x20 1 1 (Fixed 0) (Fixed 0)))
-row-of ShortBranchZero = turning (IfZero Short) (upto 0x4F (Rising 0) (one ShortBranchZero 0x40 1 3 (Fixed 1) (Fixed 0)))
-row-of ShortBranchNonzero = turning (IfNonzero Short) (upto 0x6F (Rising 0) (one ShortBranchNonzero 0x60 1 3 (Fixed 1) (Fixed 0)))
-row-of CallFar = turning Call (on-return-stack 0 2 (one CallFar 0x77 3 7 (Fixed 0) (Fixed 0)))
-row-of Ret = turning Return (on-return-stack 2 0 (one Ret 0x31 1 4 (Fixed 0) (Fixed 0)))
+row-of Not = one Not 0x3D 1 2 1 1
+row-of Increment = one Increment 0x3E 1 2 1 1
+row-of Decrement = one Decrement 0x3F 1 2 1 1
+row-of (Binary o) = one (Binary o) (0x50 + rank o) 1 4 2 1
+row-of AddCarry = one AddCarry 0x54 1 4 2 1
+row-of (Immediate o) = one (Immediate o) (0x58 + rank o) 2 3 1 1
+row-of (BinaryReturn o) = turning Return (on-return-stack 2 0 (one (BinaryReturn o) (0x5C + rank o) 1 7 2 1))
+row-of PushShort = upto 0x87 (one PushShort 0x80 1 4 0 1)
+row-of PushByte = one PushByte 0xB4 2 4 0 1
+row-of PushWord = moving PutsWord (one PushWord 0xB5 3 6 0 2)
+row-of PushTop = one PushTop 0xA4 1 3 1 2
+row-of PushNext = one PushNext 0xA5 1 4 2 3
+row-of (PushDeep k) = one (PushDeep k) (0xC0 - k) 1 5 (k + 2) (k + 3)
+row-of (PopDeep k) = one (PopDeep k) (0x100 - k) 1 5 (k + 2) (k + 1)
+row-of PushRegister = upto 0x97 (one PushRegister 0x88 1 4 0 1)
+row-of PopRegister = upto 0xD7 (one PopRegister 0xC8 1 4 1 0)
+row-of PushPointer = upto 0xB3 (one PushPointer 0xB0 1 6 0 2)
+row-of PopPointer = moving LoadsPointer (upto 0xF3 (one PopPointer 0xF0 1 6 2 0))
+row-of PushAbsolute = in-memory (Read Absolute) (one PushAbsolute 0xB7 3 7 0 1)
+row-of PopAbsolute = in-memory (Write Absolute) (one PopAbsolute 0xF7 3 7 1 0)
+row-of PushRelative = in-memory (Read Relative) (upto 0x9B (one PushRelative 0x98 2 7 0 1))
+row-of PopRelative = in-memory (Write Relative) (upto 0xDB (one PopRelative 0xD8 2 7 1 0))
+row-of PushIndexed = in-memory (Read Indexed) (upto 0x9F (one PushIndexed 0x9C 1 6 1 2))
+row-of PopIndexed = in-memory (Write Indexed) (upto 0xDF (one PopIndexed 0xDC 1 6 2 1))
+row-of PushReturn = on-return-stack 1 1 (one PushReturn 0xA1 1 4 0 1)
+row-of PushPop = on-return-stack 1 0 (one PushPop 0xA7 1 5 0 1)
+row-of PopPush = on-return-stack 0 1 (one PopPush 0xE7 1 5 1 0)
+row-of Exchange = one Exchange 0xB6 1 4 2 2
+row-of DropTop = one DropTop 0xE4 1 3 1 0
+row-of DropNext = one DropNext 0xE5 1 2 2 1
+row-of (Allocate k) = one (Allocate k) (0xBF + k) 1 3 0 k
+row-of (Deallocate k) = turning Return (on-return-stack 2 0 (one (Deallocate k) (0x80 - k) 1 6 k 0))
+row-of Branch = turning (Jump Long) (one Branch 0x71 2 2 0 0)
+row-of BranchNonzero = turning (IfNonzero Long) (one BranchNonzero 0x72 2 4 1 0)
+row-of BranchZero = turning (IfZero Long) (one BranchZero 0x73 2 4 1 0)
+row-of ShortBranch = turning (Jump Short) (upto 0x2F (one ShortBranch 0x20 1 1 0 0))
+row-of ShortBranchZero = turning (IfZero Short) (upto 0x4F (one ShortBranchZero 0x40 1 3 1 0))
+row-of ShortBranchNonzero = turning (IfNonzero Short) (upto 0x6F (one ShortBranchNonzero 0x60 1 3 1 0))
+row-of CallFar = turning Call (on-return-stack 0 2 (one CallFar 0x77 3 7 0 0))
+row-of Ret = turning Return (on-return-stack 2 0 (one Ret 0x31 1 4 0 0))
 
 unfoldable pub families : List Family
 families =
@@ -132,8 +128,22 @@ families =
     ∷ row-of PushWord
     ∷ row-of PushTop
     ∷ row-of PushNext
-    ∷ row-of PushDeep
-    ∷ row-of PopDeep
+    ∷ row-of (PushDeep 8)
+    ∷ row-of (PushDeep 7)
+    ∷ row-of (PushDeep 6)
+    ∷ row-of (PushDeep 5)
+    ∷ row-of (PushDeep 4)
+    ∷ row-of (PushDeep 3)
+    ∷ row-of (PushDeep 2)
+    ∷ row-of (PushDeep 1)
+    ∷ row-of (PopDeep 8)
+    ∷ row-of (PopDeep 7)
+    ∷ row-of (PopDeep 6)
+    ∷ row-of (PopDeep 5)
+    ∷ row-of (PopDeep 4)
+    ∷ row-of (PopDeep 3)
+    ∷ row-of (PopDeep 2)
+    ∷ row-of (PopDeep 1)
     ∷ row-of PushRegister
     ∷ row-of PopRegister
     ∷ row-of PushPointer
@@ -150,8 +160,22 @@ families =
     ∷ row-of Exchange
     ∷ row-of DropTop
     ∷ row-of DropNext
-    ∷ row-of Allocate
-    ∷ row-of Deallocate
+    ∷ row-of (Allocate 1)
+    ∷ row-of (Allocate 2)
+    ∷ row-of (Allocate 3)
+    ∷ row-of (Allocate 4)
+    ∷ row-of (Allocate 5)
+    ∷ row-of (Allocate 6)
+    ∷ row-of (Allocate 7)
+    ∷ row-of (Allocate 8)
+    ∷ row-of (Deallocate 8)
+    ∷ row-of (Deallocate 7)
+    ∷ row-of (Deallocate 6)
+    ∷ row-of (Deallocate 5)
+    ∷ row-of (Deallocate 4)
+    ∷ row-of (Deallocate 3)
+    ∷ row-of (Deallocate 2)
+    ∷ row-of (Deallocate 1)
     ∷ row-of Branch
     ∷ row-of BranchNonzero
     ∷ row-of BranchZero
@@ -178,21 +202,3 @@ at-place fs (Some place) = nth fs place
 
 unfoldable pub placed : List Family → List ℕ → ℕ → Option Family
 placed fs places opcode = at-place fs (nth places opcode)
-
--- the number that an opcode holds, so many opcodes after the family's first
-abbrev pub numbered : Numbering → ℕ → ℕ
-numbered (Rising n) k = n + k
-numbered (Falling n) k = n - k
-
--- the greatest number in the opcodes of a family
-abbrev pub highest : Numbering → ℕ → ℕ
-highest (Rising n) steps = n + steps
-highest (Falling n) steps = n
-
-abbrev pub top-number : Family → ℕ
-top-number f = highest (f .numbering) (f .last - f .first)
-
--- a number of bytes, of an instruction that holds a number
-abbrev pub counted : Count → ℕ → ℕ
-counted (Fixed n) number = n
-counted (Plus n) number = n + number

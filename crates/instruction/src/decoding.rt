@@ -1,13 +1,10 @@
 // Decoding: the opcode, the operand bytes after it, and the rest of the code.
 ghost use mathlib.Core.Path.{_≡_};
-ghost use Prim.Native.Nat.{_-_, _<_, _≤_};
-ghost use Rattle.instruction.specs.Table.{counted, numbered, found, placed, families};
-ghost use Rattle.instruction.specs.Decode.{operand-size, operand-byte, operand-word, with-family, decoded, needed, left};
+ghost use Rattle.instruction.specs.Table.{families, found, placed};
+ghost use Rattle.instruction.specs.Decode.{operand-size, operand-byte, operand-word, with-family, decoded};
 
-use crate::table::Count;
 use crate::table::FAMILIES;
 use crate::table::Family;
-use crate::table::Numbering;
 use crate::table::PLACES;
 
 // The bytes after an opcode: none, one, or two with the high byte first.
@@ -46,7 +43,7 @@ fn assemble(opcode: u8, after: &[u8]) -> Option<Instruction>
     ensures { λ r. ⌜ r ≡ with-family (found families opcode) opcode (now (after .entry)) ⌝ }
 {
     let family = find(opcode)?;
-    let number = family.number(opcode);
+    let number = opcode - family.first;
     match (family.size, after) {
         (1, _) => Some(Instruction {
             family,
@@ -74,33 +71,6 @@ pub fn decode(code: &[u8]) -> Option<Instruction>
     match code {
         [] => None,
         [opcode, after @ ..] => assemble(*opcode, after),
-    }
-}
-
-impl Family {
-    // The number in an opcode of the family.
-    fn number(&self, opcode: u8) -> u8
-        requires { ⌜ now self .first ≤ opcode ⌝ ∗ ⌜ numbered (now self .numbering) (opcode - now self .first) < 256 ⌝ }
-        ensures { λ r. ⌜ r ≡ numbered (now (self .entry) .numbering) (opcode - now (self .entry) .first) ⌝ }
-    {
-        let steps = opcode - self.first;
-        match self.numbering {
-            Numbering::Rising(n) => n + steps,
-            Numbering::Falling(n) => n.saturating_sub(steps),
-        }
-    }
-}
-
-impl Count {
-    // The number of bytes, of an instruction that holds a number.
-    fn of(self, number: u8) -> usize
-        ensures value { λ r. ⌜ r ≡ counted self number ⌝ }
-        ensures few { λ r. ⌜ r < 512 ⌝ }
-    {
-        match self {
-            Count::Fixed(n) => n as usize,
-            Count::Plus(n) => n as usize + number as usize,
-        }
     }
 }
 
@@ -134,23 +104,5 @@ impl Operand {
             Operand::Byte(n) => n as u16,
             Operand::Word(w) => w,
         }
-    }
-}
-
-impl Instruction {
-    // The data bytes needed.
-    pub fn needed(&self) -> usize
-        ensures value { λ r. ⌜ r ≡ needed (now (self .entry)) ⌝ }
-        ensures few { λ r. ⌜ r < 512 ⌝ }
-    {
-        self.family.needs.of(self.number)
-    }
-
-    // The data bytes left.
-    pub fn left(&self) -> usize
-        ensures value { λ r. ⌜ r ≡ left (now (self .entry)) ⌝ }
-        ensures few { λ r. ⌜ r < 512 ⌝ }
-    {
-        self.family.leaves.of(self.number)
     }
 }

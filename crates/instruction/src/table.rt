@@ -25,9 +25,9 @@ pub enum Kind {
     PushWord,
     PushTop,
     PushNext,
-    // A byte under NEXT, counted from there.
-    PushDeep,
-    PopDeep,
+    // The byte so many under NEXT.
+    PushDeep(u8),
+    PopDeep(u8),
     PushRegister,
     PopRegister,
     PushPointer,
@@ -45,8 +45,9 @@ pub enum Kind {
     Exchange,
     DropTop,
     DropNext,
-    Allocate,
-    Deallocate,
+    // So many bytes.
+    Allocate(u8),
+    Deallocate(u8),
     Branch,
     BranchNonzero,
     BranchZero,
@@ -55,21 +56,6 @@ pub enum Kind {
     ShortBranchNonzero,
     CallFar,
     Ret,
-}
-
-// The number that an opcode holds, as a register, a pointer, a count or a distance: this one at the family's first opcode, and
-// one more or one less with each opcode after it.
-#[derive(Clone, Copy)]
-pub enum Numbering {
-    Rising(u8),
-    Falling(u8),
-}
-
-// A number of bytes: as it stands, or with the instruction's own number added.
-#[derive(Clone, Copy)]
-pub enum Count {
-    Fixed(u8),
-    Plus(u8),
 }
 
 // Where a memory operand lies: at the operand, at the operand past a pointer, or at TOS past a pointer.
@@ -117,16 +103,16 @@ pub enum Transfer {
 #[derive(Clone, Copy)]
 pub struct Family {
     pub kind: Kind,
-    // The first and the last opcode.
+    // The first and the last opcode. How far an opcode stands from the first is its number: of a register or a pointer, a value
+    // or a distance.
     pub first: u8,
     pub last: u8,
-    pub numbering: Numbering,
     // In bytes, with the opcode.
     pub size: u8,
     pub cycles: u8,
     // Bytes of the data stack: those down to the deepest that it reads, changes, drops or moves, and those in their place after it.
-    pub needs: Count,
-    pub leaves: Count,
+    pub needs: u8,
+    pub leaves: u8,
     // The same of the return stack, with the return address that a return takes and a call leaves.
     pub takes: u8,
     pub gives: u8,
@@ -140,11 +126,10 @@ const PLAIN: Family = Family {
     kind: Kind::Not,
     first: 0,
     last: 0,
-    numbering: Numbering::Rising(0),
     size: 1,
     cycles: 1,
-    needs: Count::Fixed(0),
-    leaves: Count::Fixed(0),
+    needs: 0,
+    leaves: 0,
     takes: 0,
     gives: 0,
     memory: Memory::Nowhere,
@@ -152,85 +137,77 @@ const PLAIN: Family = Family {
     transfer: Transfer::Other,
 };
 
-pub const FAMILIES: [Family; 49] = [
+pub const FAMILIES: [Family; 77] = [
     Family {
         kind: Kind::Not,
         first: 0x3D,
         last: 0x3D,
-        size: 1,
         cycles: 2,
-        needs: Count::Fixed(1),
-        leaves: Count::Fixed(1),
+        needs: 1,
+        leaves: 1,
         ..PLAIN
     },
     Family {
         kind: Kind::Increment,
         first: 0x3E,
         last: 0x3E,
-        size: 1,
         cycles: 2,
-        needs: Count::Fixed(1),
-        leaves: Count::Fixed(1),
+        needs: 1,
+        leaves: 1,
         ..PLAIN
     },
     Family {
         kind: Kind::Decrement,
         first: 0x3F,
         last: 0x3F,
-        size: 1,
         cycles: 2,
-        needs: Count::Fixed(1),
-        leaves: Count::Fixed(1),
+        needs: 1,
+        leaves: 1,
         ..PLAIN
     },
     Family {
         kind: Kind::Binary(Op::Add),
         first: 0x50,
         last: 0x50,
-        size: 1,
         cycles: 4,
-        needs: Count::Fixed(2),
-        leaves: Count::Fixed(1),
+        needs: 2,
+        leaves: 1,
         ..PLAIN
     },
     Family {
         kind: Kind::Binary(Op::And),
         first: 0x51,
         last: 0x51,
-        size: 1,
         cycles: 4,
-        needs: Count::Fixed(2),
-        leaves: Count::Fixed(1),
+        needs: 2,
+        leaves: 1,
         ..PLAIN
     },
     Family {
         kind: Kind::Binary(Op::Or),
         first: 0x52,
         last: 0x52,
-        size: 1,
         cycles: 4,
-        needs: Count::Fixed(2),
-        leaves: Count::Fixed(1),
+        needs: 2,
+        leaves: 1,
         ..PLAIN
     },
     Family {
         kind: Kind::Binary(Op::Xor),
         first: 0x53,
         last: 0x53,
-        size: 1,
         cycles: 4,
-        needs: Count::Fixed(2),
-        leaves: Count::Fixed(1),
+        needs: 2,
+        leaves: 1,
         ..PLAIN
     },
     Family {
         kind: Kind::AddCarry,
         first: 0x54,
         last: 0x54,
-        size: 1,
         cycles: 4,
-        needs: Count::Fixed(2),
-        leaves: Count::Fixed(1),
+        needs: 2,
+        leaves: 1,
         ..PLAIN
     },
     Family {
@@ -239,8 +216,8 @@ pub const FAMILIES: [Family; 49] = [
         last: 0x58,
         size: 2,
         cycles: 3,
-        needs: Count::Fixed(1),
-        leaves: Count::Fixed(1),
+        needs: 1,
+        leaves: 1,
         ..PLAIN
     },
     Family {
@@ -249,8 +226,8 @@ pub const FAMILIES: [Family; 49] = [
         last: 0x59,
         size: 2,
         cycles: 3,
-        needs: Count::Fixed(1),
-        leaves: Count::Fixed(1),
+        needs: 1,
+        leaves: 1,
         ..PLAIN
     },
     Family {
@@ -259,8 +236,8 @@ pub const FAMILIES: [Family; 49] = [
         last: 0x5A,
         size: 2,
         cycles: 3,
-        needs: Count::Fixed(1),
-        leaves: Count::Fixed(1),
+        needs: 1,
+        leaves: 1,
         ..PLAIN
     },
     Family {
@@ -269,18 +246,17 @@ pub const FAMILIES: [Family; 49] = [
         last: 0x5B,
         size: 2,
         cycles: 3,
-        needs: Count::Fixed(1),
-        leaves: Count::Fixed(1),
+        needs: 1,
+        leaves: 1,
         ..PLAIN
     },
     Family {
         kind: Kind::BinaryReturn(Op::Add),
         first: 0x5C,
         last: 0x5C,
-        size: 1,
         cycles: 7,
-        needs: Count::Fixed(2),
-        leaves: Count::Fixed(1),
+        needs: 2,
+        leaves: 1,
         takes: 2,
         gives: 0,
         turn: Turn::Return,
@@ -290,10 +266,9 @@ pub const FAMILIES: [Family; 49] = [
         kind: Kind::BinaryReturn(Op::And),
         first: 0x5D,
         last: 0x5D,
-        size: 1,
         cycles: 7,
-        needs: Count::Fixed(2),
-        leaves: Count::Fixed(1),
+        needs: 2,
+        leaves: 1,
         takes: 2,
         gives: 0,
         turn: Turn::Return,
@@ -303,10 +278,9 @@ pub const FAMILIES: [Family; 49] = [
         kind: Kind::BinaryReturn(Op::Or),
         first: 0x5E,
         last: 0x5E,
-        size: 1,
         cycles: 7,
-        needs: Count::Fixed(2),
-        leaves: Count::Fixed(1),
+        needs: 2,
+        leaves: 1,
         takes: 2,
         gives: 0,
         turn: Turn::Return,
@@ -316,10 +290,9 @@ pub const FAMILIES: [Family; 49] = [
         kind: Kind::BinaryReturn(Op::Xor),
         first: 0x5F,
         last: 0x5F,
-        size: 1,
         cycles: 7,
-        needs: Count::Fixed(2),
-        leaves: Count::Fixed(1),
+        needs: 2,
+        leaves: 1,
         takes: 2,
         gives: 0,
         turn: Turn::Return,
@@ -329,10 +302,9 @@ pub const FAMILIES: [Family; 49] = [
         kind: Kind::PushShort,
         first: 0x80,
         last: 0x87,
-        size: 1,
         cycles: 4,
-        needs: Count::Fixed(0),
-        leaves: Count::Fixed(1),
+        needs: 0,
+        leaves: 1,
         ..PLAIN
     },
     Family {
@@ -341,8 +313,8 @@ pub const FAMILIES: [Family; 49] = [
         last: 0xB4,
         size: 2,
         cycles: 4,
-        needs: Count::Fixed(0),
-        leaves: Count::Fixed(1),
+        needs: 0,
+        leaves: 1,
         ..PLAIN
     },
     Family {
@@ -351,8 +323,8 @@ pub const FAMILIES: [Family; 49] = [
         last: 0xB5,
         size: 3,
         cycles: 6,
-        needs: Count::Fixed(0),
-        leaves: Count::Fixed(2),
+        needs: 0,
+        leaves: 2,
         transfer: Transfer::PutsWord,
         ..PLAIN
     },
@@ -360,82 +332,198 @@ pub const FAMILIES: [Family; 49] = [
         kind: Kind::PushTop,
         first: 0xA4,
         last: 0xA4,
-        size: 1,
         cycles: 3,
-        needs: Count::Fixed(1),
-        leaves: Count::Fixed(2),
+        needs: 1,
+        leaves: 2,
         ..PLAIN
     },
     Family {
         kind: Kind::PushNext,
         first: 0xA5,
         last: 0xA5,
-        size: 1,
         cycles: 4,
-        needs: Count::Fixed(2),
-        leaves: Count::Fixed(3),
+        needs: 2,
+        leaves: 3,
         ..PLAIN
     },
     Family {
-        kind: Kind::PushDeep,
+        kind: Kind::PushDeep(8),
         first: 0xB8,
-        last: 0xBF,
-        numbering: Numbering::Falling(8),
-        size: 1,
+        last: 0xB8,
         cycles: 5,
-        needs: Count::Plus(2),
-        leaves: Count::Plus(3),
+        needs: 10,
+        leaves: 11,
         ..PLAIN
     },
     Family {
-        kind: Kind::PopDeep,
-        first: 0xF8,
-        last: 0xFF,
-        numbering: Numbering::Falling(8),
-        size: 1,
+        kind: Kind::PushDeep(7),
+        first: 0xB9,
+        last: 0xB9,
         cycles: 5,
-        needs: Count::Plus(2),
-        leaves: Count::Plus(1),
+        needs: 9,
+        leaves: 10,
+        ..PLAIN
+    },
+    Family {
+        kind: Kind::PushDeep(6),
+        first: 0xBA,
+        last: 0xBA,
+        cycles: 5,
+        needs: 8,
+        leaves: 9,
+        ..PLAIN
+    },
+    Family {
+        kind: Kind::PushDeep(5),
+        first: 0xBB,
+        last: 0xBB,
+        cycles: 5,
+        needs: 7,
+        leaves: 8,
+        ..PLAIN
+    },
+    Family {
+        kind: Kind::PushDeep(4),
+        first: 0xBC,
+        last: 0xBC,
+        cycles: 5,
+        needs: 6,
+        leaves: 7,
+        ..PLAIN
+    },
+    Family {
+        kind: Kind::PushDeep(3),
+        first: 0xBD,
+        last: 0xBD,
+        cycles: 5,
+        needs: 5,
+        leaves: 6,
+        ..PLAIN
+    },
+    Family {
+        kind: Kind::PushDeep(2),
+        first: 0xBE,
+        last: 0xBE,
+        cycles: 5,
+        needs: 4,
+        leaves: 5,
+        ..PLAIN
+    },
+    Family {
+        kind: Kind::PushDeep(1),
+        first: 0xBF,
+        last: 0xBF,
+        cycles: 5,
+        needs: 3,
+        leaves: 4,
+        ..PLAIN
+    },
+    Family {
+        kind: Kind::PopDeep(8),
+        first: 0xF8,
+        last: 0xF8,
+        cycles: 5,
+        needs: 10,
+        leaves: 9,
+        ..PLAIN
+    },
+    Family {
+        kind: Kind::PopDeep(7),
+        first: 0xF9,
+        last: 0xF9,
+        cycles: 5,
+        needs: 9,
+        leaves: 8,
+        ..PLAIN
+    },
+    Family {
+        kind: Kind::PopDeep(6),
+        first: 0xFA,
+        last: 0xFA,
+        cycles: 5,
+        needs: 8,
+        leaves: 7,
+        ..PLAIN
+    },
+    Family {
+        kind: Kind::PopDeep(5),
+        first: 0xFB,
+        last: 0xFB,
+        cycles: 5,
+        needs: 7,
+        leaves: 6,
+        ..PLAIN
+    },
+    Family {
+        kind: Kind::PopDeep(4),
+        first: 0xFC,
+        last: 0xFC,
+        cycles: 5,
+        needs: 6,
+        leaves: 5,
+        ..PLAIN
+    },
+    Family {
+        kind: Kind::PopDeep(3),
+        first: 0xFD,
+        last: 0xFD,
+        cycles: 5,
+        needs: 5,
+        leaves: 4,
+        ..PLAIN
+    },
+    Family {
+        kind: Kind::PopDeep(2),
+        first: 0xFE,
+        last: 0xFE,
+        cycles: 5,
+        needs: 4,
+        leaves: 3,
+        ..PLAIN
+    },
+    Family {
+        kind: Kind::PopDeep(1),
+        first: 0xFF,
+        last: 0xFF,
+        cycles: 5,
+        needs: 3,
+        leaves: 2,
         ..PLAIN
     },
     Family {
         kind: Kind::PushRegister,
         first: 0x88,
         last: 0x97,
-        size: 1,
         cycles: 4,
-        needs: Count::Fixed(0),
-        leaves: Count::Fixed(1),
+        needs: 0,
+        leaves: 1,
         ..PLAIN
     },
     Family {
         kind: Kind::PopRegister,
         first: 0xC8,
         last: 0xD7,
-        size: 1,
         cycles: 4,
-        needs: Count::Fixed(1),
-        leaves: Count::Fixed(0),
+        needs: 1,
+        leaves: 0,
         ..PLAIN
     },
     Family {
         kind: Kind::PushPointer,
         first: 0xB0,
         last: 0xB3,
-        size: 1,
         cycles: 6,
-        needs: Count::Fixed(0),
-        leaves: Count::Fixed(2),
+        needs: 0,
+        leaves: 2,
         ..PLAIN
     },
     Family {
         kind: Kind::PopPointer,
         first: 0xF0,
         last: 0xF3,
-        size: 1,
         cycles: 6,
-        needs: Count::Fixed(2),
-        leaves: Count::Fixed(0),
+        needs: 2,
+        leaves: 0,
         transfer: Transfer::LoadsPointer,
         ..PLAIN
     },
@@ -445,8 +533,8 @@ pub const FAMILIES: [Family; 49] = [
         last: 0xB7,
         size: 3,
         cycles: 7,
-        needs: Count::Fixed(0),
-        leaves: Count::Fixed(1),
+        needs: 0,
+        leaves: 1,
         memory: Memory::Read(Place::Absolute),
         ..PLAIN
     },
@@ -456,8 +544,8 @@ pub const FAMILIES: [Family; 49] = [
         last: 0xF7,
         size: 3,
         cycles: 7,
-        needs: Count::Fixed(1),
-        leaves: Count::Fixed(0),
+        needs: 1,
+        leaves: 0,
         memory: Memory::Write(Place::Absolute),
         ..PLAIN
     },
@@ -467,8 +555,8 @@ pub const FAMILIES: [Family; 49] = [
         last: 0x9B,
         size: 2,
         cycles: 7,
-        needs: Count::Fixed(0),
-        leaves: Count::Fixed(1),
+        needs: 0,
+        leaves: 1,
         memory: Memory::Read(Place::Relative),
         ..PLAIN
     },
@@ -478,8 +566,8 @@ pub const FAMILIES: [Family; 49] = [
         last: 0xDB,
         size: 2,
         cycles: 7,
-        needs: Count::Fixed(1),
-        leaves: Count::Fixed(0),
+        needs: 1,
+        leaves: 0,
         memory: Memory::Write(Place::Relative),
         ..PLAIN
     },
@@ -487,10 +575,9 @@ pub const FAMILIES: [Family; 49] = [
         kind: Kind::PushIndexed,
         first: 0x9C,
         last: 0x9F,
-        size: 1,
         cycles: 6,
-        needs: Count::Fixed(1),
-        leaves: Count::Fixed(2),
+        needs: 1,
+        leaves: 2,
         memory: Memory::Read(Place::Indexed),
         ..PLAIN
     },
@@ -498,10 +585,9 @@ pub const FAMILIES: [Family; 49] = [
         kind: Kind::PopIndexed,
         first: 0xDC,
         last: 0xDF,
-        size: 1,
         cycles: 6,
-        needs: Count::Fixed(2),
-        leaves: Count::Fixed(1),
+        needs: 2,
+        leaves: 1,
         memory: Memory::Write(Place::Indexed),
         ..PLAIN
     },
@@ -509,10 +595,9 @@ pub const FAMILIES: [Family; 49] = [
         kind: Kind::PushReturn,
         first: 0xA1,
         last: 0xA1,
-        size: 1,
         cycles: 4,
-        needs: Count::Fixed(0),
-        leaves: Count::Fixed(1),
+        needs: 0,
+        leaves: 1,
         takes: 1,
         gives: 1,
         ..PLAIN
@@ -521,10 +606,9 @@ pub const FAMILIES: [Family; 49] = [
         kind: Kind::PushPop,
         first: 0xA7,
         last: 0xA7,
-        size: 1,
         cycles: 5,
-        needs: Count::Fixed(0),
-        leaves: Count::Fixed(1),
+        needs: 0,
+        leaves: 1,
         takes: 1,
         gives: 0,
         ..PLAIN
@@ -533,10 +617,9 @@ pub const FAMILIES: [Family; 49] = [
         kind: Kind::PopPush,
         first: 0xE7,
         last: 0xE7,
-        size: 1,
         cycles: 5,
-        needs: Count::Fixed(1),
-        leaves: Count::Fixed(0),
+        needs: 1,
+        leaves: 0,
         takes: 0,
         gives: 1,
         ..PLAIN
@@ -545,52 +628,192 @@ pub const FAMILIES: [Family; 49] = [
         kind: Kind::Exchange,
         first: 0xB6,
         last: 0xB6,
-        size: 1,
         cycles: 4,
-        needs: Count::Fixed(2),
-        leaves: Count::Fixed(2),
+        needs: 2,
+        leaves: 2,
         ..PLAIN
     },
     Family {
         kind: Kind::DropTop,
         first: 0xE4,
         last: 0xE4,
-        size: 1,
         cycles: 3,
-        needs: Count::Fixed(1),
-        leaves: Count::Fixed(0),
+        needs: 1,
+        leaves: 0,
         ..PLAIN
     },
     Family {
         kind: Kind::DropNext,
         first: 0xE5,
         last: 0xE5,
-        size: 1,
         cycles: 2,
-        needs: Count::Fixed(2),
-        leaves: Count::Fixed(1),
+        needs: 2,
+        leaves: 1,
         ..PLAIN
     },
     Family {
-        kind: Kind::Allocate,
+        kind: Kind::Allocate(1),
         first: 0xC0,
-        last: 0xC7,
-        numbering: Numbering::Rising(1),
-        size: 1,
+        last: 0xC0,
         cycles: 3,
-        needs: Count::Fixed(0),
-        leaves: Count::Plus(0),
+        needs: 0,
+        leaves: 1,
         ..PLAIN
     },
     Family {
-        kind: Kind::Deallocate,
+        kind: Kind::Allocate(2),
+        first: 0xC1,
+        last: 0xC1,
+        cycles: 3,
+        needs: 0,
+        leaves: 2,
+        ..PLAIN
+    },
+    Family {
+        kind: Kind::Allocate(3),
+        first: 0xC2,
+        last: 0xC2,
+        cycles: 3,
+        needs: 0,
+        leaves: 3,
+        ..PLAIN
+    },
+    Family {
+        kind: Kind::Allocate(4),
+        first: 0xC3,
+        last: 0xC3,
+        cycles: 3,
+        needs: 0,
+        leaves: 4,
+        ..PLAIN
+    },
+    Family {
+        kind: Kind::Allocate(5),
+        first: 0xC4,
+        last: 0xC4,
+        cycles: 3,
+        needs: 0,
+        leaves: 5,
+        ..PLAIN
+    },
+    Family {
+        kind: Kind::Allocate(6),
+        first: 0xC5,
+        last: 0xC5,
+        cycles: 3,
+        needs: 0,
+        leaves: 6,
+        ..PLAIN
+    },
+    Family {
+        kind: Kind::Allocate(7),
+        first: 0xC6,
+        last: 0xC6,
+        cycles: 3,
+        needs: 0,
+        leaves: 7,
+        ..PLAIN
+    },
+    Family {
+        kind: Kind::Allocate(8),
+        first: 0xC7,
+        last: 0xC7,
+        cycles: 3,
+        needs: 0,
+        leaves: 8,
+        ..PLAIN
+    },
+    Family {
+        kind: Kind::Deallocate(8),
         first: 0x78,
-        last: 0x7F,
-        numbering: Numbering::Falling(8),
-        size: 1,
+        last: 0x78,
         cycles: 6,
-        needs: Count::Plus(0),
-        leaves: Count::Fixed(0),
+        needs: 8,
+        leaves: 0,
+        takes: 2,
+        gives: 0,
+        turn: Turn::Return,
+        ..PLAIN
+    },
+    Family {
+        kind: Kind::Deallocate(7),
+        first: 0x79,
+        last: 0x79,
+        cycles: 6,
+        needs: 7,
+        leaves: 0,
+        takes: 2,
+        gives: 0,
+        turn: Turn::Return,
+        ..PLAIN
+    },
+    Family {
+        kind: Kind::Deallocate(6),
+        first: 0x7A,
+        last: 0x7A,
+        cycles: 6,
+        needs: 6,
+        leaves: 0,
+        takes: 2,
+        gives: 0,
+        turn: Turn::Return,
+        ..PLAIN
+    },
+    Family {
+        kind: Kind::Deallocate(5),
+        first: 0x7B,
+        last: 0x7B,
+        cycles: 6,
+        needs: 5,
+        leaves: 0,
+        takes: 2,
+        gives: 0,
+        turn: Turn::Return,
+        ..PLAIN
+    },
+    Family {
+        kind: Kind::Deallocate(4),
+        first: 0x7C,
+        last: 0x7C,
+        cycles: 6,
+        needs: 4,
+        leaves: 0,
+        takes: 2,
+        gives: 0,
+        turn: Turn::Return,
+        ..PLAIN
+    },
+    Family {
+        kind: Kind::Deallocate(3),
+        first: 0x7D,
+        last: 0x7D,
+        cycles: 6,
+        needs: 3,
+        leaves: 0,
+        takes: 2,
+        gives: 0,
+        turn: Turn::Return,
+        ..PLAIN
+    },
+    Family {
+        kind: Kind::Deallocate(2),
+        first: 0x7E,
+        last: 0x7E,
+        cycles: 6,
+        needs: 2,
+        leaves: 0,
+        takes: 2,
+        gives: 0,
+        turn: Turn::Return,
+        ..PLAIN
+    },
+    Family {
+        kind: Kind::Deallocate(1),
+        first: 0x7F,
+        last: 0x7F,
+        cycles: 6,
+        needs: 1,
+        leaves: 0,
         takes: 2,
         gives: 0,
         turn: Turn::Return,
@@ -602,8 +825,8 @@ pub const FAMILIES: [Family; 49] = [
         last: 0x71,
         size: 2,
         cycles: 2,
-        needs: Count::Fixed(0),
-        leaves: Count::Fixed(0),
+        needs: 0,
+        leaves: 0,
         turn: Turn::Jump(Distance::Long),
         ..PLAIN
     },
@@ -613,8 +836,8 @@ pub const FAMILIES: [Family; 49] = [
         last: 0x72,
         size: 2,
         cycles: 4,
-        needs: Count::Fixed(1),
-        leaves: Count::Fixed(0),
+        needs: 1,
+        leaves: 0,
         turn: Turn::IfNonzero(Distance::Long),
         ..PLAIN
     },
@@ -624,8 +847,8 @@ pub const FAMILIES: [Family; 49] = [
         last: 0x73,
         size: 2,
         cycles: 4,
-        needs: Count::Fixed(1),
-        leaves: Count::Fixed(0),
+        needs: 1,
+        leaves: 0,
         turn: Turn::IfZero(Distance::Long),
         ..PLAIN
     },
@@ -633,10 +856,9 @@ pub const FAMILIES: [Family; 49] = [
         kind: Kind::ShortBranch,
         first: 0x20,
         last: 0x2F,
-        size: 1,
         cycles: 1,
-        needs: Count::Fixed(0),
-        leaves: Count::Fixed(0),
+        needs: 0,
+        leaves: 0,
         turn: Turn::Jump(Distance::Short),
         ..PLAIN
     },
@@ -644,10 +866,9 @@ pub const FAMILIES: [Family; 49] = [
         kind: Kind::ShortBranchZero,
         first: 0x40,
         last: 0x4F,
-        size: 1,
         cycles: 3,
-        needs: Count::Fixed(1),
-        leaves: Count::Fixed(0),
+        needs: 1,
+        leaves: 0,
         turn: Turn::IfZero(Distance::Short),
         ..PLAIN
     },
@@ -655,10 +876,9 @@ pub const FAMILIES: [Family; 49] = [
         kind: Kind::ShortBranchNonzero,
         first: 0x60,
         last: 0x6F,
-        size: 1,
         cycles: 3,
-        needs: Count::Fixed(1),
-        leaves: Count::Fixed(0),
+        needs: 1,
+        leaves: 0,
         turn: Turn::IfNonzero(Distance::Short),
         ..PLAIN
     },
@@ -668,8 +888,8 @@ pub const FAMILIES: [Family; 49] = [
         last: 0x77,
         size: 3,
         cycles: 7,
-        needs: Count::Fixed(0),
-        leaves: Count::Fixed(0),
+        needs: 0,
+        leaves: 0,
         takes: 0,
         gives: 2,
         turn: Turn::Call,
@@ -679,10 +899,9 @@ pub const FAMILIES: [Family; 49] = [
         kind: Kind::Ret,
         first: 0x31,
         last: 0x31,
-        size: 1,
         cycles: 4,
-        needs: Count::Fixed(0),
-        leaves: Count::Fixed(0),
+        needs: 0,
+        leaves: 0,
         takes: 2,
         gives: 0,
         turn: Turn::Return,
@@ -694,18 +913,17 @@ pub const FAMILIES: [Family; 49] = [
 pub(crate) const PLACES: &[u8; 256] = b"\
     \xff\xff\xff\xff\xff\xff\xff\xff\xff\xff\xff\xff\xff\xff\xff\xff\
     \xff\xff\xff\xff\xff\xff\xff\xff\xff\xff\xff\xff\xff\xff\xff\xff\
-    \x2c\x2c\x2c\x2c\x2c\x2c\x2c\x2c\x2c\x2c\x2c\x2c\x2c\x2c\x2c\x2c\
-    \xff\x30\xff\xff\xff\xff\xff\xff\xff\xff\xff\xff\xff\x00\x01\x02\
-    \x2d\x2d\x2d\x2d\x2d\x2d\x2d\x2d\x2d\x2d\x2d\x2d\x2d\x2d\x2d\x2d\
+    \x48\x48\x48\x48\x48\x48\x48\x48\x48\x48\x48\x48\x48\x48\x48\x48\
+    \xff\x4c\xff\xff\xff\xff\xff\xff\xff\xff\xff\xff\xff\x00\x01\x02\
+    \x49\x49\x49\x49\x49\x49\x49\x49\x49\x49\x49\x49\x49\x49\x49\x49\
     \x03\x04\x05\x06\x07\xff\xff\xff\x08\x09\x0a\x0b\x0c\x0d\x0e\x0f\
-    \x2e\x2e\x2e\x2e\x2e\x2e\x2e\x2e\x2e\x2e\x2e\x2e\x2e\x2e\x2e\x2e\
-    \xff\x29\x2a\x2b\xff\xff\xff\x2f\x28\x28\x28\x28\x28\x28\x28\x28\
-    \x10\x10\x10\x10\x10\x10\x10\x10\x17\x17\x17\x17\x17\x17\x17\x17\
-    \x17\x17\x17\x17\x17\x17\x17\x17\x1d\x1d\x1d\x1d\x1f\x1f\x1f\x1f\
-    \xff\x21\xff\xff\x13\x14\xff\x22\xff\xff\xff\xff\xff\xff\xff\xff\
-    \x19\x19\x19\x19\x11\x12\x24\x1b\x15\x15\x15\x15\x15\x15\x15\x15\
-    \x27\x27\x27\x27\x27\x27\x27\x27\x18\x18\x18\x18\x18\x18\x18\x18\
-    \x18\x18\x18\x18\x18\x18\x18\x18\x1e\x1e\x1e\x1e\x20\x20\x20\x20\
-    \xff\xff\xff\xff\x25\x26\xff\x23\xff\xff\xff\xff\xff\xff\xff\xff\
-    \x1a\x1a\x1a\x1a\xff\xff\xff\x1c\x16\x16\x16\x16\x16\x16\x16\x16";
-
+    \x4a\x4a\x4a\x4a\x4a\x4a\x4a\x4a\x4a\x4a\x4a\x4a\x4a\x4a\x4a\x4a\
+    \xff\x45\x46\x47\xff\xff\xff\x4b\x3d\x3e\x3f\x40\x41\x42\x43\x44\
+    \x10\x10\x10\x10\x10\x10\x10\x10\x25\x25\x25\x25\x25\x25\x25\x25\
+    \x25\x25\x25\x25\x25\x25\x25\x25\x2b\x2b\x2b\x2b\x2d\x2d\x2d\x2d\
+    \xff\x2f\xff\xff\x13\x14\xff\x30\xff\xff\xff\xff\xff\xff\xff\xff\
+    \x27\x27\x27\x27\x11\x12\x32\x29\x15\x16\x17\x18\x19\x1a\x1b\x1c\
+    \x35\x36\x37\x38\x39\x3a\x3b\x3c\x26\x26\x26\x26\x26\x26\x26\x26\
+    \x26\x26\x26\x26\x26\x26\x26\x26\x2c\x2c\x2c\x2c\x2e\x2e\x2e\x2e\
+    \xff\xff\xff\xff\x33\x34\xff\x31\xff\xff\xff\xff\xff\xff\xff\xff\
+    \x28\x28\x28\x28\xff\xff\xff\x2a\x1d\x1e\x1f\x20\x21\x22\x23\x24";

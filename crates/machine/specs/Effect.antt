@@ -41,7 +41,7 @@ joined o s = with-carry (overflow o (tos s) (next s)) (pushed (value o (tos s) (
 abbrev pub pushed-word : ℕ → State → State
 pushed-word w s = pushed (w % 256) (pushed (w / 256) s)
 
--- What each kind does to the stacks, the registers, the pointers and the carry, of the number n in its opcode, its operand x, the
+-- What each kind does to the stacks, the registers, the pointers and the carry, of the number n of its opcode, its operand x, the
 -- byte b that the board answered and the fill byte f. The return address of a call and a return, the instruction address and
 -- the cycle count are left to `moved`.
 abbrev pub effect : Kind → ℕ → Operand → ℕ → ℕ → State → State
@@ -57,8 +57,8 @@ effect PushByte n x b f s = pushed (operand-byte x) s
 effect PushWord n x b f s = pushed-word (operand-word x) s
 effect PushTop n x b f s = pushed (tos s) s
 effect PushNext n x b f s = pushed (next s) s
-effect PushDeep n x b f s = pushed (getD (s .stack) (n + 1) 0) s
-effect PopDeep n x b f s = with-stack (set (rest (s .stack)) n (tos s)) s
+effect (PushDeep k) n x b f s = pushed (getD (s .stack) (k + 1) 0) s
+effect (PopDeep k) n x b f s = with-stack (set (rest (s .stack)) k (tos s)) s
 effect PushRegister n x b f s = pushed (getD (s .registers) n 0) s
 effect PopRegister n x b f s = with-registers (set (s .registers) n (tos s)) (popped s)
 effect PushPointer n x b f s = pushed-word (getD (s .pointers) n 0) s
@@ -75,8 +75,8 @@ effect PopPush n x b f s = with-returns (tos s ∷ s .returns) (popped s)
 effect Exchange n x b f s = pushed (next s) (pushed (tos s) (popped (popped s)))
 effect DropTop n x b f s = popped s
 effect DropNext n x b f s = pushed (tos s) (popped (popped s))
-effect Allocate n x b f s = with-stack (replicate n f ++ s .stack) s
-effect Deallocate n x b f s = with-stack (drop n (s .stack)) s
+effect (Allocate k) n x b f s = with-stack (replicate k f ++ s .stack) s
+effect (Deallocate k) n x b f s = with-stack (drop k (s .stack)) s
 effect Branch n x b f s = s
 effect BranchNonzero n x b f s = popped s
 effect BranchZero n x b f s = popped s

@@ -14,7 +14,7 @@ use Rattle.instruction.specs.declared.reach.Target.{Target}
 use Rattle.instruction.specs.declared.reach.Target.the-variants.{Fixed, Offset, Indexed}
 use Rattle.instruction.specs.declared.reach.MemoryOperand.{MemoryOperand}
 use Rattle.instruction.specs.declared.reach.MemoryOperand.the-variants as operand
-use Rattle.instruction.specs.Decode.{decoded, needed, left}
+use Rattle.instruction.specs.Decode.{decoded}
 use Rattle.instruction.specs.Flow.{flow, ends, taken}
 use Rattle.instruction.specs.Reach.{reach}
 use Rattle.machine.specs.declared.settings.Settings.{Settings}
@@ -88,9 +88,9 @@ done i byte fill s = goes i (flow i (s .ip)) byte fill s
 -- what is asked of the stacks
 unfoldable pub stack-asks : Settings → Instruction → State → List Asked
 stack-asks limits i s =
-  ask 71 (s .ip) (leb (needed i) (length (s .stack)))
+  ask 71 (s .ip) (leb (i .family .needs) (length (s .stack)))
   ∷ (ask 72 (s .ip) (leb (i .family .takes) (length (s .returns)))
-  ∷ (ask 73 (s .ip) (leb (length (s .stack) - needed i + left i) (limits .stack))
+  ∷ (ask 73 (s .ip) (leb (length (s .stack) - i .family .needs + i .family .leaves) (limits .stack))
   ∷ (ask 74 (s .ip) (leb (length (s .returns) - i .family .takes + i .family .gives) (limits .returns))
   ∷ [])))
 

@@ -6,13 +6,13 @@ use Rattle.instruction.specs.declared.reach.Target.{Target}
 use Rattle.instruction.specs.declared.reach.Target.the-variants.{Fixed, Offset, Indexed}
 use Rattle.instruction.specs.declared.reach.MemoryOperand.{MemoryOperand}
 use Rattle.instruction.specs.declared.reach.MemoryOperand.the-variants.{Nothing, Read, Write}
-use Rattle.instruction.specs.Table.{row-of, top-number, counted}
+use Rattle.instruction.specs.Table.{row-of}
 
 -- what a row and the questions promise of an instruction's number and of the depths d and r of the data and the return stack
 pub record Suited (f : Family) (number d r : ℕ) : Type 0 where
-  pub low : number ≤ top-number f
-  pub enough : counted (f .needs) number ≤ d
-  pub within : d - counted (f .needs) number + counted (f .leaves) number ≤ 255
+  pub low : number ≤ f .last - f .first
+  pub enough : f .needs ≤ d
+  pub within : d - f .needs + f .leaves ≤ 255
   pub enough-returns : f .takes ≤ r
   pub within-returns : r - f .takes + f .gives ≤ 255
 

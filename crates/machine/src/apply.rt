@@ -46,7 +46,7 @@ impl Machine {
         self.stack.pop() == 0
     }
 
-    // Does what the kind does, with the number in its opcode, its operand, the address after it, the byte that the board
+    // Does what the kind does, with the number of its opcode, its operand, the address after it, the byte that the board
     // answered and the fill byte; the answer is the address that control goes on at.
     pub(crate) fn apply(
         &mut self,
@@ -77,8 +77,8 @@ impl Machine {
             Kind::PushWord => self.push_word(operand.word()),
             Kind::PushTop => self.push_top(),
             Kind::PushNext => self.push_next(),
-            Kind::PushDeep => self.push_deep(number),
-            Kind::PopDeep => self.pop_deep(number),
+            Kind::PushDeep(k) => self.push_deep(k),
+            Kind::PopDeep(k) => self.pop_deep(k),
             Kind::PushRegister => self.push_register(number),
             Kind::PopRegister => self.pop_register(number),
             Kind::PushPointer => self.push_pointer(number),
@@ -95,9 +95,9 @@ impl Machine {
             Kind::Exchange => self.exchange(),
             Kind::DropTop => self.drop_top(),
             Kind::DropNext => self.drop_next(),
-            Kind::Allocate => self.allocate(number, fill),
-            Kind::Deallocate => {
-                self.deallocate(number);
+            Kind::Allocate(k) => self.allocate(k, fill),
+            Kind::Deallocate(k) => {
+                self.deallocate(k);
                 return self.go_back();
             }
             Kind::Branch => return target(Distance::Long, number, operand, end),

@@ -117,7 +117,7 @@ impl Machine {
 
     pub(crate) fn push_deep(&mut self, k: u8)
         requires { ⌜ k + 1 < now self .stack .depth ⌝ ∗ ⌜ now self .stack .depth < 255 ⌝ }
-        ensures { λ _. ⌜ view (now (self .exit)) ≡ effect PushDeep k Empty 0 0 (view (now (self .entry))) ⌝ }
+        ensures { λ _. ⌜ view (now (self .exit)) ≡ effect (PushDeep k) 0 Empty 0 0 (view (now (self .entry))) ⌝ }
     {
         let byte = self.stack.peek(k as usize + 1);
         self.stack.push(byte);
@@ -125,7 +125,7 @@ impl Machine {
 
     pub(crate) fn pop_deep(&mut self, k: u8)
         requires { ⌜ k + 1 < now self .stack .depth ⌝ }
-        ensures { λ _. ⌜ view (now (self .exit)) ≡ effect PopDeep k Empty 0 0 (view (now (self .entry))) ⌝ }
+        ensures { λ _. ⌜ view (now (self .exit)) ≡ effect (PopDeep k) 0 Empty 0 0 (view (now (self .entry))) ⌝ }
     {
         let byte = self.stack.pop();
         self.stack.poke(k as usize, byte);
@@ -226,14 +226,14 @@ impl Machine {
 
     pub(crate) fn allocate(&mut self, k: u8, fill: u8)
         requires { ⌜ now self .stack .depth + k ≤ 255 ⌝ }
-        ensures { λ _. ⌜ view (now (self .exit)) ≡ effect Allocate k Empty 0 fill (view (now (self .entry))) ⌝ }
+        ensures { λ _. ⌜ view (now (self .exit)) ≡ effect (Allocate k) 0 Empty 0 fill (view (now (self .entry))) ⌝ }
     {
         self.stack.grow(k as usize, fill);
     }
 
     pub(crate) fn deallocate(&mut self, k: u8)
         requires { ⌜ k ≤ now self .stack .depth ⌝ }
-        ensures after { λ _. ⌜ view (now (self .exit)) ≡ effect Deallocate k Empty 0 0 (view (now (self .entry))) ⌝ }
+        ensures after { λ _. ⌜ view (now (self .exit)) ≡ effect (Deallocate k) 0 Empty 0 0 (view (now (self .entry))) ⌝ }
         ensures same { λ _. ⌜ now (self .exit) .returns ≡ now (self .entry) .returns ⌝ }
     {
         self.stack.cut(k as usize);

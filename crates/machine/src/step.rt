@@ -35,12 +35,12 @@ impl Machine {
     {
         let place = self.ip as usize;
         let depth = self.stack.depth();
-        let needed = instruction.needed();
-        ask(Question::DataShort, place, needed <= depth)?;
+        let needs = instruction.family.needs as usize;
+        ask(Question::DataShort, place, needs <= depth)?;
         let returns = self.returns.depth();
         let takes = instruction.family.takes as usize;
         ask(Question::ReturnShort, place, takes <= returns)?;
-        let deeper = depth - needed + instruction.left();
+        let deeper = depth - needs + instruction.family.leaves as usize;
         ask(Question::DataFull, place, deeper <= settings.stack as usize)?;
         let deeper = returns - takes + instruction.family.gives as usize;
         ask(Question::ReturnFull, place, deeper <= settings.returns as usize)
