@@ -1,3 +1,4 @@
 mod Heaped
 mod Steps
 mod Agree
+pub mod Frames

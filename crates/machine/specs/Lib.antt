@@ -5,3 +5,4 @@ pub mod State
 pub mod Effect
 pub mod Suits
 pub mod Step
+pub mod Law
