@@ -4,7 +4,6 @@ ghost use mathlib.Core.Path.{_≡_};
 ghost use mathlib.Core.Bool.{cond};
 ghost use Rattle.std.specs.declared.result.Result.the-variants.{Ok, Err};
 ghost use Rattle.board.specs.Meaning.{Meaning, Lawful, answer, spans, denied};
-
 use refusal::Question;
 use refusal::Refusal;
 

@@ -2,7 +2,6 @@
 // which leaves every address to the first.
 ghost use mathlib.Core.Path.{_≡_};
 ghost use Rattle.board.specs.Split.{split-meaning};
-
 use crate::Board;
 use crate::Right;
 use refusal::Refusal;

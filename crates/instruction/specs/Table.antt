@@ -25,35 +25,101 @@ use Rattle.instruction.specs.declared.table.Family.{Family}
 -- one opcode, its size, its cycles, and the data bytes that it needs and leaves; the next instruction follows
 abbrev one : Kind → ℕ → ℕ → ℕ → ℕ → ℕ → Family
 one kind opcode size cycles needs leaves = record {
-  kind = kind; first = opcode; last = opcode; size = size; cycles = cycles; needs = needs; leaves = leaves;
-  takes = 0; gives = 0; memory = Nowhere; turn = On; transfer = Other }
+  kind = kind;
+  first = opcode;
+  last = opcode;
+  size = size;
+  cycles = cycles;
+  needs = needs;
+  leaves = leaves;
+  takes = 0;
+  gives = 0;
+  memory = Nowhere;
+  turn = On;
+  transfer = Other;
+}
 
 -- up to another opcode
 abbrev upto : ℕ → Family → Family
 upto last f = record {
-  kind = f .kind; first = f .first; last = last; size = f .size; cycles = f .cycles; needs = f .needs; leaves = f .leaves;
-  takes = f .takes; gives = f .gives; memory = f .memory; turn = f .turn; transfer = f .transfer }
+  kind = f .kind;
+  first = f .first;
+  last = last;
+  size = f .size;
+  cycles = f .cycles;
+  needs = f .needs;
+  leaves = f .leaves;
+  takes = f .takes;
+  gives = f .gives;
+  memory = f .memory;
+  turn = f .turn;
+  transfer = f .transfer;
+}
 
 -- the bytes that it needs and leaves on the return stack
 abbrev on-return-stack : ℕ → ℕ → Family → Family
 on-return-stack takes gives f = record {
-  kind = f .kind; first = f .first; last = f .last; size = f .size; cycles = f .cycles; needs = f .needs; leaves = f .leaves;
-  takes = takes; gives = gives; memory = f .memory; turn = f .turn; transfer = f .transfer }
+  kind = f .kind;
+  first = f .first;
+  last = f .last;
+  size = f .size;
+  cycles = f .cycles;
+  needs = f .needs;
+  leaves = f .leaves;
+  takes = takes;
+  gives = gives;
+  memory = f .memory;
+  turn = f .turn;
+  transfer = f .transfer;
+}
 
 abbrev in-memory : Memory → Family → Family
 in-memory memory f = record {
-  kind = f .kind; first = f .first; last = f .last; size = f .size; cycles = f .cycles; needs = f .needs; leaves = f .leaves;
-  takes = f .takes; gives = f .gives; memory = memory; turn = f .turn; transfer = f .transfer }
+  kind = f .kind;
+  first = f .first;
+  last = f .last;
+  size = f .size;
+  cycles = f .cycles;
+  needs = f .needs;
+  leaves = f .leaves;
+  takes = f .takes;
+  gives = f .gives;
+  memory = memory;
+  turn = f .turn;
+  transfer = f .transfer;
+}
 
 abbrev turning : Turn → Family → Family
 turning turn f = record {
-  kind = f .kind; first = f .first; last = f .last; size = f .size; cycles = f .cycles; needs = f .needs; leaves = f .leaves;
-  takes = f .takes; gives = f .gives; memory = f .memory; turn = turn; transfer = f .transfer }
+  kind = f .kind;
+  first = f .first;
+  last = f .last;
+  size = f .size;
+  cycles = f .cycles;
+  needs = f .needs;
+  leaves = f .leaves;
+  takes = f .takes;
+  gives = f .gives;
+  memory = f .memory;
+  turn = turn;
+  transfer = f .transfer;
+}
 
 abbrev moving : Transfer → Family → Family
 moving transfer f = record {
-  kind = f .kind; first = f .first; last = f .last; size = f .size; cycles = f .cycles; needs = f .needs; leaves = f .leaves;
-  takes = f .takes; gives = f .gives; memory = f .memory; turn = f .turn; transfer = transfer }
+  kind = f .kind;
+  first = f .first;
+  last = f .last;
+  size = f .size;
+  cycles = f .cycles;
+  needs = f .needs;
+  leaves = f .leaves;
+  takes = f .takes;
+  gives = f .gives;
+  memory = f .memory;
+  turn = f .turn;
+  transfer = transfer;
+}
 
 -- the order in which the operations' opcodes stand
 abbrev rank : Op → ℕ

@@ -1,7 +1,6 @@
 // Where control may go on from an instruction, read off its row, its operand and its address.
 ghost use mathlib.Core.Path.{_≡_};
 ghost use Rattle.instruction.specs.Flow.{ends, jump, flow};
-
 use crate::decoding::Instruction;
 use crate::decoding::Operand;
 use crate::table::Distance;
@@ -48,8 +47,14 @@ impl Instruction {
                 let to = target(distance, self.number, self.operand, end);
                 Flow::Goes(to, to)
             }
-            Turn::IfZero(distance) => Flow::Goes(target(distance, self.number, self.operand, end), end),
-            Turn::IfNonzero(distance) => Flow::Goes(target(distance, self.number, self.operand, end), end),
+            Turn::IfZero(distance) => Flow::Goes(
+                target(distance, self.number, self.operand, end),
+                end,
+            ),
+            Turn::IfNonzero(distance) => Flow::Goes(
+                target(distance, self.number, self.operand, end),
+                end,
+            ),
             Turn::Call => Flow::Calls(self.operand.word()),
             Turn::Return => Flow::Returns,
         }

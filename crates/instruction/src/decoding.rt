@@ -2,7 +2,6 @@
 ghost use mathlib.Core.Path.{_≡_};
 ghost use Rattle.instruction.specs.Table.{families, found, placed};
 ghost use Rattle.instruction.specs.Decode.{operand-size, operand-byte, operand-word, with-family, decoded};
-
 use crate::table::FAMILIES;
 use crate::table::Family;
 use crate::table::PLACES;

@@ -1,17 +1,17 @@
 // The instructions: one table of families, and what is read off it before anything runs. The machine and the check of claim
 // sheets both read this table.
-mod decoding;
 mod control;
+mod decoding;
 mod reach;
 mod table;
 mod text;
 
+pub use control::Flow;
+pub use control::target;
 pub use decoding::Instruction;
 pub use decoding::Operand;
 pub use decoding::decode;
 pub use decoding::find;
-pub use control::Flow;
-pub use control::target;
 pub use reach::MemoryOperand;
 pub use reach::Target;
 pub use table::Distance;
@@ -23,5 +23,7 @@ pub use table::Op;
 pub use table::Place;
 pub use table::Transfer;
 pub use table::Turn;
+pub use text::Encoding;
+pub use text::EncodingDisplay;
 pub use text::FamilyDisplay;
 pub use text::InstructionDisplay;

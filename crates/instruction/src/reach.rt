@@ -1,7 +1,6 @@
 // The memory operand of an instruction, read off its row and its operand.
 ghost use mathlib.Core.Path.{_≡_};
 ghost use Rattle.instruction.specs.Reach.{target, reach};
-
 use crate::decoding::Instruction;
 use crate::table::Memory;
 use crate::table::Place;

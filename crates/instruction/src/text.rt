@@ -1,5 +1,6 @@
 // Instructions as text: the mnemonic, and the operand as an assembler writes it.
 use crate::decoding::Instruction;
+use crate::decoding::Operand;
 use crate::table::Family;
 use crate::table::Kind;
 use crate::table::Op;
@@ -86,6 +87,21 @@ fn written(kind: Kind) -> (&'static str, Syntax) {
         Kind::ShortBranchNonzero => ("SBRNZ", Syntax::ShortJump),
         Kind::CallFar => ("CALLF", Syntax::Absolute),
         Kind::Ret => ("RET", Syntax::Bare),
+    }
+}
+
+// The bytes of an instruction.
+#[derive(Clone, Copy)]
+pub struct Encoding<'a>(pub &'a Instruction);
+
+pub impl fmt::Display for Encoding<'_> as EncodingDisplay {
+    fn fmt<W: fmt::Write>(&self, f: &mut fmt::Formatter<W>) -> fmt::Result {
+        let opcode = self.0.family.first.wrapping_add(self.0.number);
+        match self.0.operand {
+            Operand::Empty => write!(f, "{opcode:02X}"),
+            Operand::Byte(n) => write!(f, "{opcode:02X}{n:02X}"),
+            Operand::Word(w) => write!(f, "{opcode:02X}{w:04X}"),
+        }
     }
 }
 

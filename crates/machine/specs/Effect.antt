@@ -101,4 +101,4 @@ returns-after Returns back rs = rest (rest rs)
 -- control goes on, and the cycles are counted
 abbrev pub moved : Flow → Bool → ℕ → ℕ → State → State
 moved w first back cycles e =
-  at (goes-to w first (e .returns)) ((e .cycles + cycles) % 4294967296) (with-returns (returns-after w back (e .returns)) e)
+    at (goes-to w first (e .returns)) ((e .cycles + cycles) % 4294967296) (with-returns (returns-after w back (e .returns)) e)

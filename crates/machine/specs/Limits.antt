@@ -18,4 +18,4 @@ limits-fit stack returns = leb 1 stack && (leb stack 255 && (leb 2 returns && le
 
 abbrev pub settings-asks : ℕ → ℕ → ℕ → ℕ → ℕ → List Asked
 settings-asks page first last stack returns =
-  ask 1 0 (page-fits page) ∷ (ask 2 0 (area-fits page first last) ∷ (ask 3 0 (limits-fit stack returns) ∷ []))
+    ask 1 0 (page-fits page) ∷ (ask 2 0 (area-fits page first last) ∷ (ask 3 0 (limits-fit stack returns) ∷ []))

@@ -17,8 +17,14 @@ pub record State : Type 0 where
 
 abbrev pub view : Machine → State
 view m = record {
-  stack = bytes (m .stack); returns = bytes (m .returns); registers = m .registers; pointers = m .pointers; carry = m .carry;
-  ip = m .ip; cycles = m .cycles }
+  stack = bytes (m .stack);
+  returns = bytes (m .returns);
+  registers = m .registers;
+  pointers = m .pointers;
+  carry = m .carry;
+  ip = m .ip;
+  cycles = m .cycles;
+}
 
 -- a machine as it is made: at an address, and all else empty or zero
 abbrev pub fresh : ℕ → State

@@ -88,11 +88,11 @@ done i byte fill s = goes i (flow i (s .ip)) byte fill s
 -- what is asked of the stacks
 unfoldable pub stack-asks : Settings → Instruction → State → List Asked
 stack-asks limits i s =
-  ask 71 (s .ip) (leb (i .family .needs) (length (s .stack)))
-  ∷ (ask 72 (s .ip) (leb (i .family .takes) (length (s .returns)))
-  ∷ (ask 73 (s .ip) (leb (length (s .stack) - i .family .needs + i .family .leaves) (limits .stack))
-  ∷ (ask 74 (s .ip) (leb (length (s .returns) - i .family .takes + i .family .gives) (limits .returns))
-  ∷ [])))
+    ask 71 (s .ip) (leb (i .family .needs) (length (s .stack)))
+    ∷ (ask 72 (s .ip) (leb (i .family .takes) (length (s .returns)))
+    ∷ (ask 73 (s .ip) (leb (length (s .stack) - i .family .needs + i .family .leaves) (limits .stack))
+    ∷ (ask 74 (s .ip) (leb (length (s .returns) - i .family .takes + i .family .gives) (limits .returns))
+    ∷ [])))
 
 pub record Outcome (B : Type 0) : Type 0 where
   pub verdict : Verdict
@@ -113,8 +113,8 @@ module _ {B : Type 0} (m : Meaning B) (limits : Settings) where
   unfoldable pub after : Option Instruction → State → B → Outcome B
   after None s b = settled (first-no (step-asks None s b)) s b s b
   after (Some i) s b =
-    settled (first-no (step-asks (Some i) s b)) s b
-    (done i (answered m (wants i s) b) (limits .fill) s) (changed m (wants i s) b)
+      settled (first-no (step-asks (Some i) s b)) s b
+      (done i (answered m (wants i s) b) (limits .fill) s) (changed m (wants i s) b)
 
   -- one step over a code that begins at its first address
   unfoldable pub stepped : List ℕ → ℕ → State → B → Outcome B

@@ -7,7 +7,6 @@ ghost use Rattle.std.specs.declared.option.Option.the-variants.{Some, None};
 ghost use Rattle.machine.specs.State.{view};
 ghost use Rattle.machine.specs.Step.{address, written, asked, accepts, answered, changed};
 ghost use Rattle.machine.specs.Suits.{Found, Stored, Reaches};
-
 use crate::state::Machine;
 use board::Board;
 use instruction::MemoryOperand;
@@ -48,7 +47,8 @@ impl Machine {
                 self.pointers[pointer as usize].wrapping_add(offset as u16)
             }
             Target::Indexed(pointer) => {
-                self.pointers[pointer as usize].wrapping_add(self.stack.top() as u16)
+                self.pointers[pointer as usize]
+                    .wrapping_add(self.stack.top() as u16)
             }
         }
     }

@@ -9,7 +9,6 @@ ghost use lib.Dec.{eqb};
 ghost use Rattle.machine.specs.State.{view, with-returns, tos, popped};
 ghost use Rattle.machine.specs.Effect.{effect, goes-to, returns-after};
 ghost use Rattle.machine.specs.Suits.{Suits};
-
 use crate::state::Machine;
 use instruction::Distance;
 use instruction::Kind;

@@ -5,7 +5,6 @@ ghost use Rattle.instruction.specs.declared.table.Kind.the-variants.{Not, Incre
 ghost use Rattle.instruction.specs.declared.decoding.Operand.the-variants.{Empty, Byte};
 ghost use Rattle.machine.specs.State.{view};
 ghost use Rattle.machine.specs.Effect.{effect, value, overflow, joined, pushed-word};
-
 use crate::state::Machine;
 use instruction::Op;
 

@@ -1,7 +1,6 @@
 // The machine's state.
 ghost use mathlib.Core.Path.{_≡_};
 ghost use Rattle.machine.specs.State.{view, fresh};
-
 use crate::stack::Stack;
 
 #[derive(Clone, Copy)]

@@ -7,7 +7,6 @@ ghost use Rattle.instruction.specs.Decode.{Listed};
 ghost use Rattle.machine.specs.State.{view};
 ghost use Rattle.machine.specs.Suits.{Suits};
 ghost use Rattle.machine.specs.Step.{fetched, stack-asks, done, after, stepped};
-
 use crate::settings::Settings;
 use crate::state::Machine;
 use board::Board;
@@ -43,7 +42,11 @@ impl Machine {
         let deeper = depth - needs + instruction.family.leaves as usize;
         ask(Question::DataFull, place, deeper <= settings.stack as usize)?;
         let deeper = returns - takes + instruction.family.gives as usize;
-        ask(Question::ReturnFull, place, deeper <= settings.returns as usize)
+        ask(
+            Question::ReturnFull,
+            place,
+            deeper <= settings.returns as usize,
+        )
     }
 
     // Does the instruction.
@@ -54,7 +57,14 @@ impl Machine {
         let end = instruction.end(self.ip);
         let kind = instruction.family.kind;
         let cycles = instruction.family.cycles as u32;
-        self.ip = self.apply(kind, instruction.number, instruction.operand, end, byte, fill);
+        self.ip = self.apply(
+            kind,
+            instruction.number,
+            instruction.operand,
+            end,
+            byte,
+            fill,
+        );
         self.cycles = self.cycles.wrapping_add(cycles);
     }
 

@@ -3,7 +3,6 @@ ghost use mathlib.Core.Path.{_≡_};
 ghost use mathlib.Core.List.{[], _∷_};
 ghost use Rattle.std.specs.declared.option.Option.the-variants.{Some};
 ghost use Rattle.refusal.specs.Questions.{number, verdict-of, first-no, ask as asked, spelt};
-
 use std::fmt;
 
 // The questions of all calls, by what is wrong where the answer is no. Each has its fixed number.

@@ -4,7 +4,6 @@ ghost use Prim.Native.Nat.{_<_, _≤_};
 ghost use lib.ListN.{length};
 ghost use Rattle.std.specs.Options.{Cases};
 ghost use Rattle.board.specs.Addresses.{index, contains, distinct, listed};
-
 use super::Addresses;
 
 // The first place of an address in a list, or the list's length.

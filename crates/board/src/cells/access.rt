@@ -4,7 +4,6 @@ ghost use lib.ListN.{take};
 ghost use Rattle.std.specs.Vec.{made};
 ghost use Rattle.refusal.specs.Questions.{verdict-of, first-no, ask as asked};
 ghost use Rattle.board.specs.Cells.{owns, cells-meaning, cells-fit, NewCells};
-
 use super::Cells;
 use crate::Board;
 use crate::Right;

@@ -9,7 +9,6 @@ ghost use Rattle.std.specs.declared.result.Result.the-variants.{Ok, Err};
 ghost use Rattle.refusal.specs.Questions.{verdict-of, first-no, ask as asked};
 ghost use Rattle.board.specs.Meaning.{allowed, denied};
 ghost use Rattle.board.specs.Ports.{ports-meaning, ports-fit, NewPorts, latest-of};
-
 use super::Ports;
 use crate::Board;
 use crate::Right;

@@ -3,7 +3,6 @@ ghost use Rattle.std.specs.Vec.{made};
 ghost use Rattle.refusal.specs.Questions.{verdict-of, first-no};
 ghost use Rattle.machine.specs.Limits.{page-fits, area-fits, limits-fit, settings-asks};
 ghost use Rattle.machine.specs.Settings.{SetTo};
-
 use super::Settings;
 use refusal::Question;
 use refusal::Refusal;

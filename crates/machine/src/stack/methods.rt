@@ -5,7 +5,6 @@ ghost use Prim.Native.Nat.{_+_, _≤_, _<_};
 ghost use lib.ListN.{length, getD, set, drop, replicate};
 ghost use Rattle.std.specs.Options.{Cases};
 ghost use Rattle.machine.specs.Bytes.{bytes, top, rest};
-
 use super::Stack;
 
 impl Stack {
