@@ -1,6 +1,6 @@
 -- Cells: addresses from a first one, all readable, writable and held.
 use mathlib.Core.Path.{_≡_, _∙_}
-use mathlib.Core.Bool.{Bool, _&&_}
+use mathlib.Core.Bool.{Bool, _&&_, _||_}
 use Prim.Native.Nat.{ℕ, _+_, _-_}
 use lib.Dec.{leb, ltb}
 use lib.ListN.{getD, set, replicate, length-set}
@@ -9,6 +9,10 @@ use Rattle.board.specs.declared.cells.Cells.{Cells}
 
 abbrev pub owns : Cells → ℕ → Bool
 owns c a = leb (c .first) a && ltb a (c .first + c .count)
+
+-- both ends are, where there is an address between them
+abbrev pub owns-ends : Cells → ℕ → ℕ → Bool
+owns-ends c first last = ltb last first || (owns c first && owns c last)
 
 abbrev pub with-byte : Cells → ℕ → ℕ → Cells
 with-byte c i v = record {

@@ -4,7 +4,6 @@ mod control;
 mod decoding;
 mod reach;
 mod table;
-mod text;
 
 pub use control::Flow;
 pub use control::target;
@@ -23,7 +22,3 @@ pub use table::Op;
 pub use table::Place;
 pub use table::Transfer;
 pub use table::Turn;
-pub use text::Encoding;
-pub use text::EncodingDisplay;
-pub use text::FamilyDisplay;
-pub use text::InstructionDisplay;

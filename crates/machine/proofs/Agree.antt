@@ -44,7 +44,6 @@ pub record Passed (limits : Settings) (i : Instruction) (m : Machine) : Type 0 w
   pub within-returns : m .returns .depth - i .family .takes + i .family .gives ≤ limits .returns
 
 pub passes : (limits : Settings) (i : Instruction) (m : Machine) → accepted ≡ first-no (stack-asks limits i (view m)) → Passed limits i m
-unfolding stack-asks
 passes limits i m e =
     let x = length (bytes (m .stack)) in
     let y = length (bytes (m .returns)) in

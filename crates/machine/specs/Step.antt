@@ -86,7 +86,7 @@ done i byte fill s = goes i (flow i (s .ip)) byte fill s
 -- the step
 
 -- what is asked of the stacks
-unfoldable pub stack-asks : Settings → Instruction → State → List Asked
+abbrev pub stack-asks : Settings → Instruction → State → List Asked
 stack-asks limits i s =
     ask 71 (s .ip) (leb (i .family .needs) (length (s .stack)))
     ∷ (ask 72 (s .ip) (leb (i .family .takes) (length (s .returns)))

@@ -1,7 +1,14 @@
-// What the programs read and print: hexadecimal and decimal numbers, and a machine and its board as text.
+// What the programs read and print: numbers, instructions, and a machine and its board as text.
+mod disassembly;
 mod numbers;
 mod show;
 
+pub use disassembly::Disassembly;
+pub use disassembly::DisassemblyDisplay;
+pub use disassembly::Encoding;
+pub use disassembly::EncodingDisplay;
+pub use disassembly::Pattern;
+pub use disassembly::PatternDisplay;
 pub use numbers::bytes;
 pub use numbers::decimal;
 pub use numbers::word;

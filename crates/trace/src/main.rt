@@ -8,9 +8,6 @@ use board::Ports;
 use board::PortsBoard;
 use board::Split;
 use board::SplitBoard;
-use instruction::Encoding;
-use instruction::EncodingDisplay;
-use instruction::InstructionDisplay;
 use job::BadLineDisplay;
 use job::Job;
 use machine::Machine;
@@ -24,6 +21,10 @@ use text::Bytes;
 use text::BytesDisplay;
 use text::Cell;
 use text::CellDisplay;
+use text::Disassembly;
+use text::DisassemblyDisplay;
+use text::Encoding;
+use text::EncodingDisplay;
 use text::NonzeroCells;
 use text::NonzeroCellsDisplay;
 use text::Progress;
@@ -72,8 +73,9 @@ fn steps(
         }
         if let Some(instruction) = found {
             let encoding = Encoding(&instruction);
+            let disassembly = Disassembly(&instruction);
             let progress = Progress(machine);
-            println!(rt, "{at:04X} {encoding} {instruction} ; {progress}")?;
+            println!(rt, "{at:04X} {encoding} {disassembly} ; {progress}")?;
         }
     }
     println!(rt, "STOPPED after {most} steps")
@@ -90,10 +92,8 @@ fn show(rt: &impl Print, machine: &Machine, board: &Memory) -> io::Result<()> {
         let cell = Cell { at, byte };
         print!(rt, " {cell}")?;
     }
-    let cells = NonzeroCells {
-        first: board.lower.first(),
-        bytes: board.lower.bytes(),
-    };
+    let (first, bytes) = board.lower.contents();
+    let cells = NonzeroCells { first, bytes };
     println!(rt, "\ncells {cells}")
 }
 

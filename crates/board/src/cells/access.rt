@@ -1,9 +1,10 @@
 ghost use mathlib.Core.Path.{_≡_};
 ghost use mathlib.Core.List.{[], _∷_};
+ghost use Prim.Native.Nat.{_<_};
 ghost use lib.ListN.{take};
 ghost use Rattle.std.specs.Vec.{made};
 ghost use Rattle.refusal.specs.Questions.{verdict-of, first-no, ask as asked};
-ghost use Rattle.board.specs.Cells.{owns, cells-meaning, cells-fit, NewCells};
+ghost use Rattle.board.specs.Cells.{owns, owns-ends, with-byte, cells-meaning, cells-fit, NewCells};
 use super::Cells;
 use crate::Board;
 use crate::Right;
@@ -30,17 +31,12 @@ impl Cells {
         })
     }
 
-    pub fn first(&self) -> u16
-        ensures { λ r. ⌜ r ≡ now (self .entry) .first ⌝ }
+    // The first address, and the bytes from there on.
+    pub fn contents(&self) -> (u16, &[u8])
+        ensures first { λ r. ⌜ r .0 ≡ now (self .entry) .first ⌝ }
+        ensures bytes { λ r. ⌜ now (r .1) ≡ take (now (self .entry) .count) (now (self .entry) .bytes) ⌝ }
     {
-        self.first
-    }
-
-    // The bytes held, from the first address on.
-    pub fn bytes(&self) -> &[u8]
-        ensures { λ r. ⌜ now r ≡ take (now (self .entry) .count) (now (self .entry) .bytes) ⌝ }
-    {
-        &self.bytes[0..self.count as usize]
+        (self.first, &self.bytes[0..self.count as usize])
     }
 
     fn owns(&self, at: u16) -> bool
@@ -48,13 +44,27 @@ impl Cells {
     {
         self.first <= at && (at as u32) < self.first as u32 + self.count as u32
     }
+
+    // Whether both ends are cells, where there is an address between them.
+    fn owns_ends(&self, first: u16, last: u16) -> bool
+        ensures { λ r. ⌜ r ≡ owns-ends (now (self .entry)) first last ⌝ }
+    {
+        first > last || (self.owns(first) && self.owns(last))
+    }
+
+    fn set(&mut self, i: usize, byte: u8)
+        requires { ⌜ i < 512 ⌝ }
+        ensures { λ _. ⌜ now (self .exit) ≡ with-byte (now (self .entry)) i byte ⌝ }
+    {
+        self.bytes[i] = byte;
+    }
 }
 
 pub impl Board for Cells as CellsBoard {
     ghost meaning = { cells-meaning };
 
     fn may(&self, _right: Right, first: u16, last: u16) -> bool {
-        first > last || (self.owns(first) && self.owns(last))
+        self.owns_ends(first, last)
     }
 
     fn read(&mut self, at: u16) -> Result<u8, Refusal> {
@@ -68,7 +78,7 @@ pub impl Board for Cells as CellsBoard {
         if !self.owns(at) {
             return Err(denied(at));
         }
-        self.bytes[(at - self.first) as usize] = byte;
+        self.set((at - self.first) as usize, byte);
         Ok(())
     }
 }

@@ -56,8 +56,7 @@ impl Ports {
         }
     }
 
-    // Writes an output: it keeps this byte, and every other keeps its own.
-    pub fn put(&mut self, at: u16, byte: u8) -> Result<(), Refusal>
+    fn put(&mut self, at: u16, byte: u8) -> Result<(), Refusal>
         ensures value { λ r. ⌜ r ≡ cond (ports-meaning .writable (now (self .entry)) at) (Ok tt) (Err (denied at)) ⌝ }
         ensures after { λ _. ⌜ now (self .exit) ≡ cond (ports-meaning .writable (now (self .entry)) at) (ports-meaning .after-write (now (self .entry)) at byte) (now (self .entry)) ⌝ }
         ensures kept { λ r. ⌜ made r (λ _. (a : ℕ) → latest-of (now (self .exit)) a ≡ cond (eqb a at) (Some byte) (latest-of (now (self .entry)) a)) ⌝ }
@@ -105,7 +104,12 @@ pub impl Board for Ports as PortsBoard {
         Ok(byte)
     }
 
-    fn write(&mut self, at: u16, byte: u8) -> Result<(), Refusal> {
+    // The output keeps this byte, and every other keeps its own.
+    fn write(&mut self, at: u16, byte: u8) -> Result<(), Refusal>
+        ensures value { λ r. ⌜ r ≡ cond (ports-meaning .writable (now (self .entry)) at) (Ok tt) (Err (denied at)) ⌝ }
+        ensures after { λ _. ⌜ now (self .exit) ≡ cond (ports-meaning .writable (now (self .entry)) at) (ports-meaning .after-write (now (self .entry)) at byte) (now (self .entry)) ⌝ }
+        ensures kept { λ r. ⌜ made r (λ _. (a : ℕ) → latest-of (now (self .exit)) a ≡ cond (eqb a at) (Some byte) (latest-of (now (self .entry)) a)) ⌝ }
+    {
         self.put(at, byte)
     }
 }

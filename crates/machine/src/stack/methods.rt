@@ -2,7 +2,7 @@
 ghost use mathlib.Core.Path.{_≡_};
 ghost use mathlib.Core.List.{[], _∷_, _++_, reverse};
 ghost use Prim.Native.Nat.{_+_, _≤_, _<_};
-ghost use lib.ListN.{length, getD, set, drop, replicate};
+ghost use lib.ListN.{length, getD, set, take, drop, replicate};
 ghost use Rattle.std.specs.Options.{Cases};
 ghost use Rattle.machine.specs.Bytes.{bytes, top, rest};
 use super::Stack;
@@ -34,7 +34,16 @@ impl Stack {
 
     // The bytes, the top one last.
     pub fn as_slice(&self) -> &[u8]
-        ensures { λ r. ⌜ reverse (now r) ≡ bytes (now (self .entry)) ⌝ }
+        ensures bytes { λ r. ⌜ reverse (now r) ≡ bytes (now (self .entry)) ⌝ }
+        ensures len { λ r. ⌜ length (now r) ≡ now (self .entry) .depth ⌝ }
+        ensures many { λ r. ⌜ length (now r) ≡ length (bytes (now (self .entry))) ⌝ }
+    {
+        self.used()
+    }
+
+    fn used(&self) -> &[u8]
+        ensures bytes { λ r. ⌜ now r ≡ take (now (self .entry) .depth) (now (self .entry) .cells) ⌝ }
+        ensures room { λ _. ⌜ now (self .entry) .depth ≤ length (now (self .entry) .cells) ⌝ }
     {
         &self.cells[0..self.depth]
     }
@@ -43,7 +52,7 @@ impl Stack {
         ensures depth { λ r. ⌜ r ≡ now (self .entry) .depth ⌝ }
         ensures bytes { λ r. ⌜ r ≡ length (bytes (now (self .entry))) ⌝ }
     {
-        self.depth
+        self.as_slice().len()
     }
 
     pub(crate) fn push(&mut self, byte: u8)

@@ -1,9 +1,9 @@
 // Instructions as text: the mnemonic, and the operand as an assembler writes it.
-use crate::decoding::Instruction;
-use crate::decoding::Operand;
-use crate::table::Family;
-use crate::table::Kind;
-use crate::table::Op;
+use instruction::Family;
+use instruction::Instruction;
+use instruction::Kind;
+use instruction::Op;
+use instruction::Operand;
 use std::fmt;
 
 // How the operand of a family is written.
@@ -105,10 +105,13 @@ pub impl fmt::Display for Encoding<'_> as EncodingDisplay {
     }
 }
 
-// The family with its operand by letters: n a byte, w two, k a number, r a register, p a pointer, m a distance.
-pub impl fmt::Display for Family as FamilyDisplay {
+// A family, with its operand by letters: n a byte, w two, k a number, r a register, p a pointer, m a distance.
+#[derive(Clone, Copy)]
+pub struct Pattern<'a>(pub &'a Family);
+
+pub impl fmt::Display for Pattern<'_> as PatternDisplay {
     fn fmt<W: fmt::Write>(&self, f: &mut fmt::Formatter<W>) -> fmt::Result {
-        let (mnemonic, syntax) = written(self.kind);
+        let (mnemonic, syntax) = written(self.0.kind);
         let operand = match syntax {
             Syntax::Bare => "",
             Syntax::Top => " TOS",
@@ -131,13 +134,16 @@ pub impl fmt::Display for Family as FamilyDisplay {
     }
 }
 
-// Bytes and addresses in hexadecimal; registers 8 to 23 and jumps, counted from the instruction itself, in decimal.
-pub impl fmt::Display for Instruction as InstructionDisplay {
+// An instruction: bytes and addresses in hexadecimal; registers 8 to 23 and jumps, counted from the instruction itself, in decimal.
+#[derive(Clone, Copy)]
+pub struct Disassembly<'a>(pub &'a Instruction);
+
+pub impl fmt::Display for Disassembly<'_> as DisassemblyDisplay {
     fn fmt<W: fmt::Write>(&self, f: &mut fmt::Formatter<W>) -> fmt::Result {
-        let (mnemonic, syntax) = written(self.family.kind);
-        let number = self.number;
-        let byte = self.operand.byte();
-        let word = self.operand.word();
+        let (mnemonic, syntax) = written(self.0.family.kind);
+        let number = self.0.number;
+        let byte = self.0.operand.byte();
+        let word = self.0.operand.word();
         match syntax {
             Syntax::Bare => write!(f, "{mnemonic}"),
             Syntax::Top => write!(f, "{mnemonic} TOS"),
