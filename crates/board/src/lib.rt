@@ -1,5 +1,7 @@
 // A board: the memory and the ports that a machine's memory operands go to. Its `meaning` says what an access answers and
 // changes, its law is what every board keeps, and code over a board is proved against the two.
+#![tactic(auto)]
+
 ghost use Rattle.std.specs.Prelude.{◌≡◌, if◌then◌else◌, Ok, Err};
 ghost use Rattle.board.specs.Meaning.{Meaning, Lawful, answer, spans, denied};
 

@@ -1,5 +1,7 @@
 // Fits one routine after another, and prints what each is answered. A line of the script is blank, a comment that begins with
 // `#` and is printed again, `node` where all that was fitted is forgotten, or `fit` with a code and a sheet in hexadecimal.
+#![tactic(auto)]
+
 mod script;
 
 use board::{Board, Cells};

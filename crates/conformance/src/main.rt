@@ -1,5 +1,7 @@
 // Steps two interpreters that were written independently of each other from equal states, and says whether they leave equal
 // states.
+#![tactic(auto)]
+
 mod axis;
 mod case;
 mod extras;

@@ -1,4 +1,6 @@
 // Whether a sheet is fitted: one line, `FIT` and the worst cycles, or the refusal.
+#![tactic(auto)]
+
 use fitting::fit;
 use std::io;
 use std::io::Read;

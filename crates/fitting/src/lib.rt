@@ -1,4 +1,6 @@
 // A code and its sheet as one input, fitted to the planner's node.
+#![tactic(auto)]
+
 ghost use Rattle.std.specs.Prelude.{◌≡◌};
 ghost use Rattle.board.specs.Cells.{NewCells};
 ghost use Rattle.machine.specs.Settings.{SetTo};

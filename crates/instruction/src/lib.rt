@@ -1,5 +1,7 @@
 // The instructions: one table of families, and what is read off it before anything runs. The machine and the check of claim
 // sheets both read this table.
+#![tactic(auto)]
+
 mod control;
 mod decoding;
 mod reach;

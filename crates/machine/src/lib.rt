@@ -1,4 +1,6 @@
 // The machine: two stacks, registers, pointers, and one step of an instruction.
+#![tactic(auto)]
+
 mod access;
 mod apply;
 mod effects;

@@ -1,5 +1,7 @@
 // Claim sheets as records: how they are read and chained, and what is asked of the head, of each window and of each row by
 // itself.
+#![tactic(auto)]
+
 mod bytes;
 mod chain;
 mod entry;

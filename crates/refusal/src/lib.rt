@@ -1,4 +1,6 @@
 // What a call asks, and what it answers where it refuses: the question that was answered no, and its place.
+#![tactic(auto)]
+
 ghost use Rattle.std.specs.Prelude.{◌≡◌, [], ◌∷◌, Some};
 ghost use Rattle.refusal.specs.Questions.{number, verdict_of, first_no, ask as asked, spelt};
 

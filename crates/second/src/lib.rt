@@ -1,4 +1,6 @@
 // One processor, its memory and ports, and a step of it, instruction by instruction.
+#![tactic(auto)]
+
 ghost use Rattle.std.specs.Prelude.{◌≡◌, ℕ, ◌+◌, ◌-◌, ◌<◌, ◌≤◌, true, false, IfNone, IfOk, vec_len, MatchOption, OnOk};
 
 use std::alloc::{AllocError, Global};

@@ -1,4 +1,6 @@
 // Claim sheets: whether a sheet is fitted, and what a node keeps of it.
+#![tactic(auto)]
+
 mod call;
 mod follow;
 mod keep;

@@ -1,5 +1,7 @@
 // Times the examination of the sheet on standard input. The argument is the number of examinations, and the time of one is
 // printed too; without it a few are done, and what is printed is the same on every machine.
+#![tactic(auto)]
+
 use anyhow::anyhow;
 use board::Cells;
 use fitting::{cells, settings, split};

@@ -1,5 +1,7 @@
 // Times the machine on two routines. The argument is the number of steps of each, and the time is printed too; without it a few
 // thousand steps are done, and what is printed is the same on every machine.
+#![tactic(auto)]
+
 use anyhow::anyhow;
 use board::{Board, Cells, Ports, Split};
 use machine::{Machine, Settings};

@@ -1,4 +1,6 @@
 // What the programs read and print: numbers, instructions, and a machine and its board as text.
+#![tactic(auto)]
+
 mod disassembly;
 mod numbers;
 mod show;

@@ -1,4 +1,6 @@
 // Steps a routine and prints what each step did, and at the end the machine and its board.
+#![tactic(auto)]
+
 mod job;
 
 use board::{Board, Cells, Ports, Split};

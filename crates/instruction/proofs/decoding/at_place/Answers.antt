@@ -12,5 +12,5 @@ pub returns : goal.returns
 unfolding placed
 returns c =
     c.copied.ensures
-    ∙ item_nth c.args.families.now c.in-ok-place.field-0.now c.get-2.result c.get-2.ensures.lookup
-    ∙ ap (at_place c.args.families.now) (item_nth c.args.places.now c.args.opcode (Some c.in-ok-place.field-0) c.in-ok-place.ensures.lookup)
+    ∙ item_nth c.args.families.now c.in_ok-place.field-0.now c.get-2.result c.get-2.ensures.lookup
+    ∙ ap (at_place c.args.families.now) (item_nth c.args.places.now c.args.opcode (Some c.in_ok-place.field-0) c.in_ok-place.ensures.lookup)

@@ -6,4 +6,4 @@ use Rattle.instruction.proofs.decoding.find.Goals as goal
 -- that the places answer as the search does is computed, once, over all opcodes
 pub returns : goal.returns
 unfolding families
-returns c = c.at-place.ensures ∙ looked_up _ c.args.opcode refl refl (omega arith)
+returns c = c.at_place.ensures ∙ looked_up _ c.args.opcode refl refl (omega arith)
