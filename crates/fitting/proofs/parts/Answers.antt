@@ -14,6 +14,6 @@ returns c =
     let rest = rest-is c.args.input.now in
     let cut : c.min.result ≡ min (word c.args.input.now 0) (length (drop 2 c.args.input.now)) = c.min.ensures ∙ ap (λ (z : List ℕ). min (word c.args.input.now 0) (length z)) rest in
     record {
-      code = c.split-at.ensures.front ∙ ap (λ (z : List ℕ). take c.min.result z) rest ∙ take_min (drop 2 c.args.input.now) (word c.args.input.now 0) c.min.result cut;
-      sheet = c.split-at.ensures.back ∙ ap (λ (z : List ℕ). drop c.min.result z) rest ∙ drop_min (drop 2 c.args.input.now) (word c.args.input.now 0) c.min.result cut;
+      code = c.split_at.ensures.front ∙ ap (λ (z : List ℕ). take c.min.result z) rest ∙ take_min (drop 2 c.args.input.now) (word c.args.input.now 0) c.min.result cut;
+      sheet = c.split_at.ensures.back ∙ ap (λ (z : List ℕ). drop c.min.result z) rest ∙ drop_min (drop 2 c.args.input.now) (word c.args.input.now 0) c.min.result cut;
     }

@@ -3,10 +3,10 @@ use Rattle.instruction.specs.Table.{at_place, placed}
 use Rattle.instruction.proofs.Lookup.{item_nth}
 use Rattle.instruction.proofs.decoding.at_place.Goals as goal
 
-pub returns-in-err-place : goal.returns-in-err-place
+pub returns-in_err-place : goal.returns-in_err-place
 unfolding placed
-returns-in-err-place c =
-    c.from-residual.ensures ∙ ap (at_place c.args.families.now) (item_nth c.args.places.now c.args.opcode None c.in-err-place.ensures.lookup)
+returns-in_err-place c =
+    c.from_residual.ensures ∙ ap (at_place c.args.families.now) (item_nth c.args.places.now c.args.opcode None c.in_err-place.ensures.lookup)
 
 pub returns : goal.returns
 unfolding placed

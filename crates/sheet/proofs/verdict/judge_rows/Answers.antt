@@ -17,29 +17,29 @@ use Rattle.sheet.proofs.Before.{primed_law}
 use Rattle.sheet.specs.Questions.{rows_asked, step_at}
 use Rattle.sheet.proofs.verdict.judge_rows.Goals as goal
 
-pub returns-in-err-ask : goal.returns-in-err-ask
+pub returns-in_err-ask : goal.returns-in_err-ask
 unfolding rows_asked
-returns-in-err-ask g c = search rules
+returns-in_err-ask g c = search rules
 
-pub returns-in-err-walk : goal.returns-in-err-walk
+pub returns-in_err-walk : goal.returns-in_err-walk
 unfolding rows_asked
-returns-in-err-walk g c = search (rules, first_no-++)
+returns-in_err-walk g c = search (rules, first_no-++)
 
-pub returns-in-err-ask-2 : goal.returns-in-err-ask-2
+pub returns-in_err-ask-2 : goal.returns-in_err-ask-2
 unfolding rows_asked
-returns-in-err-ask-2 g c = search (rules, first_no-++)
+returns-in_err-ask-2 g c = search (rules, first_no-++)
 
 pub new-layout-requires : goal.new-layout-requires
 new-layout-requires g c =
-    let pass = c.in-ok-walk.ensures.first in
+    let pass = c.in_ok-walk.ensures.first in
     record {
-      rising = c.in-ok-walk.ensures.rising;
+      rising = c.in_ok-walk.ensures.rising;
       low = rows-low (ground g.B.Board.meaning c.args.scene.now) c.args.scene.now.candidate.sheet.now _ c.requires.0 pass;
     }
 
-pub returns-in-err-judge-rows : goal.returns-in-err-judge-rows
+pub returns-in_err-judge_rows : goal.returns-in_err-judge_rows
 unfolding rows_asked
-returns-in-err-judge-rows g c = search (rules, first_no-++)
+returns-in_err-judge_rows g c = search (rules, first_no-++)
 
 pub returns : goal.returns
 unfolding rows_asked
@@ -50,6 +50,6 @@ returns g c = record {
       let R : Routine = routine c.args.scene.now.candidate in
       subst (λ (e : Entry). KeepsCalls R e) (sym (c.entry.ensures ∙ ap (λ (z : Candidate). entry_of (routine z)) c.new-layout.ensures.candidate))
       (keeps_calls R (digests_of c.args.scene.now.fitted.now) c.args.scene.now.candidate.sheet.now (chain c.args.scene.now.candidate.sheet.now c.args.scene.now.candidate.head.rows) refl c.requires.1
-      (c.in-ok-judge-rows.ensures ∙ ap (λ (z : Candidate). first_no (each (step_at (routine z) (digests_of c.args.scene.now.fitted.now) z.sheet.now) (chain z.sheet.now z.head.rows))) c.new-layout.ensures.candidate));
-  primed = primed_law (routine c.args.scene.now.candidate) c.in-ok-walk.ensures.rising;
+      (c.in_ok-judge_rows.ensures ∙ ap (λ (z : Candidate). first_no (each (step_at (routine z) (digests_of c.args.scene.now.fitted.now) z.sheet.now) (chain z.sheet.now z.head.rows))) c.new-layout.ensures.candidate));
+  primed = primed_law (routine c.args.scene.now.candidate) c.in_ok-walk.ensures.rising;
 }

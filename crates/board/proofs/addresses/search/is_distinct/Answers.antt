@@ -7,10 +7,10 @@ use Rattle.board.proofs.addresses.search.is_distinct.Goals as goal
 pub returns : goal.returns
 returns c = sym (true_every _ _ (λ k l. c.loop-i.invariant k (omega arith)))
 
-pub returns-then-index-of-i : goal.returns-then-index-of-i
-returns-then-index-of-i c =
+pub returns-then-index_of-i : goal.returns-then-index_of-i
+returns-then-index_of-i c =
     every_no (λ i. eqb (index c.args.list.now (get_or c.args.list.now i 0)) i) (length c.args.list.now) c.loop-i.i (omega arith)
-    (ne_eqb _ _ (λ e. c.if-index-of-i.true (c.index-of.ensures ∙ e)))
+    (ne_eqb _ _ (λ e. c.if-index_of-i.true (c.index_of.ensures ∙ e)))
 
 pub loop-i-preserved : goal.loop-i-preserved
-loop-i-preserved c = below_more _ _ c.loop-i.invariant (eq-eqb _ _ (sym c.index-of.ensures ∙ c.if-index-of-i.false))
+loop-i-preserved c = below_more _ _ c.loop-i.invariant (eq-eqb _ _ (sym c.index_of.ensures ∙ c.if-index_of-i.false))

@@ -11,4 +11,4 @@ returns-then-self-eq0 c =
     ]
 
 pub returns : goal.returns
-returns c = record { sheet = refl; next = (links-next _ _ _ _ _ (omega arith) (omega arith) (c.byte-at-self.ensures ∙ ap (λ (r : List ℕ). get_or r 9 0) c.record_at.ensures), omega arith, omega arith) }
+returns c = record { sheet = refl; next = (links-next _ _ _ _ _ (omega arith) (omega arith) (c.byte_at-self.ensures ∙ ap (λ (r : List ℕ). get_or r 9 0) c.record_at.ensures), omega arith, omega arith) }

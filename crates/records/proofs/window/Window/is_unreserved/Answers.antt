@@ -2,10 +2,10 @@ use Rattle.std.proofs.Common.{rules}
 use Rattle.records.specs.Windows.{unreserved}
 use Rattle.records.proofs.window.Window.is_unreserved.Goals as goal
 
-pub returns-then-is-clear-of : goal.returns-then-is-clear-of
+pub returns-then-is_clear_of : goal.returns-then-is_clear_of
 unfolding unreserved
-returns-then-is-clear-of c = search rules
+returns-then-is_clear_of c = search rules
 
-pub returns-else-is-clear-of : goal.returns-else-is-clear-of
+pub returns-else-is_clear_of : goal.returns-else-is_clear_of
 unfolding unreserved
-returns-else-is-clear-of c = search rules
+returns-else-is_clear_of c = search rules

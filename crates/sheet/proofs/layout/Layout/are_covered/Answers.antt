@@ -4,15 +4,15 @@ use Rattle.records.proofs.Slices.{all_stop, all-on, all_end}
 use Rattle.sheet.specs.Calls.{covered}
 use Rattle.sheet.proofs.layout.Layout.are_covered.Goals as goal
 
-pub returns-then-not-is-covered : goal.returns-then-not-is-covered
-returns-then-not-is-covered c =
+pub returns-then-not-is_covered : goal.returns-then-not-is_covered
+returns-then-not-is_covered c =
     all_stop (covered (routine c.args.self.now.candidate).windows) c.args.places.now c.loop-place.place-index _
-    (omega arith) (sym c.if-not-is-covered.ensures) c.loop-place.invariant
+    (omega arith) (sym c.if-not-is_covered.ensures) c.loop-place.invariant
 
 pub loop-place-preserved : goal.loop-place-preserved
 loop-place-preserved c =
     all-on (covered (routine c.args.self.now.candidate).windows) c.args.places.now c.loop-place.place-index _ _
-    (omega arith) (omega arith) (sym c.if-not-is-covered.ensures) c.loop-place.invariant
+    (omega arith) (omega arith) (sym c.if-not-is_covered.ensures) c.loop-place.invariant
 
 pub returns : goal.returns
 returns c =

@@ -4,4 +4,4 @@ use Rattle.sheet.proofs.Entries.{covered-present}
 use Rattle.sheet.proofs.layout.Layout.is_wider.Goals as goal
 
 pub returns : goal.returns
-returns c = c.are-covered.ensures ∙ covered-present (routine c.args.self.now.candidate).windows c.args.callee.windows
+returns c = c.are_covered.ensures ∙ covered-present (routine c.args.self.now.candidate).windows c.args.callee.windows

@@ -2,13 +2,13 @@ use Rattle.std.proofs.Common.{rules}
 use Rattle.sheet.specs.Steps.{call_asks}
 use Rattle.sheet.proofs.layout.Layout.judge_call.Goals as goal
 
-pub returns-in-default : goal.returns-in-default
+pub returns-in_default : goal.returns-in_default
 unfolding call_asks
-returns-in-default c = search rules
+returns-in_default c = search rules
 
-pub returns-in-err-ask : goal.returns-in-err-ask
+pub returns-in_err-ask : goal.returns-in_err-ask
 unfolding call_asks
-returns-in-err-ask c = search rules
+returns-in_err-ask c = search rules
 
 pub returns : goal.returns
 unfolding call_asks

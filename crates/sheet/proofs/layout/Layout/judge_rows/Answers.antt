@@ -8,27 +8,27 @@ use Rattle.sheet.specs.Steps.{step_asks}
 use Rattle.sheet.proofs.Before.{rising_here, before_here, tracks_on}
 use Rattle.sheet.proofs.layout.Layout.judge_rows.Goals as goal
 
-pub judge-row-requires : goal.judge-row-requires
-judge-row-requires c = (
+pub judge_row-requires : goal.judge_row-requires
+judge_row-requires c = (
   c.requires,
-  before_here (routine c.args.self.now.candidate).rows c.args.self.now.candidate.sheet.now c.loop-link.before _ _ c.in-Some.link c.read-record-row.result
-      c.in-Some.ensures.next.0 c.read-record-row.ensures.value (routine c.args.self.now.candidate) refl c.loop-link.invariant.1 c.loop-link.invariant.2,
+  before_here (routine c.args.self.now.candidate).rows c.args.self.now.candidate.sheet.now c.loop-link.before _ _ c.in-Some.link c.read_record-row.result
+      c.in-Some.ensures.next.0 c.read_record-row.ensures.value (routine c.args.self.now.candidate) refl c.loop-link.invariant.1 c.loop-link.invariant.2,
 )
 
-pub returns-in-err-judge-row : goal.returns-in-err-judge-row
-returns-in-err-judge-row c =
-    let p = err_from_is_err_and c.from-residual.result c.from-residual.ensures.1 in
+pub returns-in_err-judge_row : goal.returns-in_err-judge_row
+returns-in_err-judge_row c =
+    let p = err_from_is_err_and c.from_residual.result c.from_residual.ensures.1 in
     let asks = λ (r : Row). first_no (step_asks (routine c.args.self.now.candidate) (digests_of c.args.fitted.now) c.in-Some.link.index r) in
-    rw (p.1, p.2) (sym (c.loop-link.invariant.0 ∙ each_no _ _ _ c.in-Some.link _ _ c.in-Some.ensures.next.0 (c.in-err-judge-row.ensures ∙ ap asks c.read-record-row.ensures.value)))
+    rw (p.1, p.2) (sym (c.loop-link.invariant.0 ∙ each_no _ _ _ c.in-Some.link _ _ c.in-Some.ensures.next.0 (c.in_err-judge_row.ensures ∙ ap asks c.read_record-row.ensures.value)))
 
 pub loop-link-preserved : goal.loop-link-preserved
 loop-link-preserved c =
     let asks = λ (r : Row). first_no (step_asks (routine c.args.self.now.candidate) (digests_of c.args.fitted.now) c.in-Some.link.index r) in
     let here = c.in-Some.ensures.next.0 in (
-      c.loop-link.invariant.0 ∙ each_yes _ _ _ c.in-Some.link here (c.in-ok-judge-row.ensures ∙ ap asks c.read-record-row.ensures.value),
-      (rising_here (routine c.args.self.now.candidate).rows c.args.self.now.candidate.sheet.now c.loop-link.before _ _ c.in-Some.link c.read-record-row.result here c.read-record-row.ensures.value c.loop-link.invariant.1).1,
-      tracks_on (routine c.args.self.now.candidate).rows c.args.self.now.candidate.sheet.now c.loop-link.before _ _ c.in-Some.link c.read-record-row.result here c.read-record-row.ensures.value c.loop-link.invariant.1 c.loop-link.invariant.2,
+      c.loop-link.invariant.0 ∙ each_yes _ _ _ c.in-Some.link here (c.in_ok-judge_row.ensures ∙ ap asks c.read_record-row.ensures.value),
+      (rising_here (routine c.args.self.now.candidate).rows c.args.self.now.candidate.sheet.now c.loop-link.before _ _ c.in-Some.link c.read_record-row.result here c.read_record-row.ensures.value c.loop-link.invariant.1).1,
+      tracks_on (routine c.args.self.now.candidate).rows c.args.self.now.candidate.sheet.now c.loop-link.before _ _ c.in-Some.link c.read_record-row.result here c.read_record-row.ensures.value c.loop-link.invariant.1 c.loop-link.invariant.2,
     )
 
 pub returns : goal.returns
-returns c = each_none _ _ c.in-default.ensures.next ∙ sym c.loop-link.invariant.0
+returns c = each_none _ _ c.in_default.ensures.next ∙ sym c.loop-link.invariant.0

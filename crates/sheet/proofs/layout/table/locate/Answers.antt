@@ -22,17 +22,17 @@ loop-link-preserved c =
     let sheet = c.args.candidate.now.sheet.now in
     let all = chain sheet c.args.candidate.now.head.rows in
     let here = c.in-Some.ensures.next.0 in
-    let low = low_here sheet _ _ c.in-Some.link c.read-record-row.result here c.read-record-row.ensures.value c.loop-link.invariant.1 in (
+    let low = low_here sheet _ _ c.in-Some.link c.read_record-row.result here c.read_record-row.ensures.value c.loop-link.invariant.1 in (
       length-set _ _ _ ∙ c.loop-link.invariant.0,
       low.1,
-      filling-more c.loop-link.table sheet all _ _ c.in-Some.link c.read-record-row.result here c.read-record-row.ensures.value c.loop-link.invariant.0 low.0
+      filling-more c.loop-link.table sheet all _ _ c.in-Some.link c.read_record-row.result here c.read_record-row.ensures.value c.loop-link.invariant.0 low.0
           c.in-Some.ensures.next.2 c.loop-link.invariant.3 c.loop-link.invariant.2,
-      fresh-more c.loop-link.table sheet all _ _ c.in-Some.link c.read-record-row.result here c.read-record-row.ensures.value c.loop-link.invariant.0 low.0
+      fresh-more c.loop-link.table sheet all _ _ c.in-Some.link c.read_record-row.result here c.read_record-row.ensures.value c.loop-link.invariant.0 low.0
           c.loop-link.invariant.3,
     )
 
 pub returns : goal.returns
 returns c = record {
   sized = c.loop-link.invariant.0;
-  located = filling_end c.loop-link.table c.args.candidate.now.sheet.now _ _ c.in-default.ensures.next c.loop-link.invariant.2;
+  located = filling_end c.loop-link.table c.args.candidate.now.sheet.now _ _ c.in_default.ensures.next c.loop-link.invariant.2;
 }
