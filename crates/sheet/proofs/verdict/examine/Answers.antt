@@ -19,19 +19,19 @@ unfolding windows_asked
 returns-in_err-walk g c = search (rules, first_no-++)
 
 pub judge_rows-requires : goal.judge_rows-requires
-judge_rows-requires g c = head_passed (ground_of c.args.settings.now (may g.B.Board.meaning c.args.board.now) (digests_of c.args.fitted.now) c.read_head.result c.args.code.now c.args.sheet.now) c.in_ok-judge_head.ensures
+judge_rows-requires g c = head_passed (ground_of c.args.settings.now (may g.B.Board.meaning c.args.board.now) (digests_of c.args.fitted.now) c.read-head.result c.args.code.now c.args.sheet.now) c.in_ok-judge_head.ensures
 
 -- what holds of the routine with the head that was read holds of the routine of the sheet
 pub returns : goal.returns
 unfolding windows_asked
 returns g c =
-    let R : Routine = routine_from c.read_head.result c.args.code.now c.args.sheet.now in
-    let none = none_lost (ground_of c.args.settings.now (may g.B.Board.meaning c.args.board.now) (digests_of c.args.fitted.now) c.read_head.result c.args.code.now c.args.sheet.now) c.args.sheet.now c.read_head.result.windows c.in_ok-walk.ensures.first in
+    let R : Routine = routine_from c.read-head.result c.args.code.now c.args.sheet.now in
+    let none = none_lost (ground_of c.args.settings.now (may g.B.Board.meaning c.args.board.now) (digests_of c.args.fitted.now) c.read-head.result c.args.code.now c.args.sheet.now) c.args.sheet.now c.read-head.result.windows c.in_ok-walk.ensures.first in
     record {
       verdict = search (rules, first_no-++);
-      kept = subst (λ (h : Head). IfOk c.judge_rows.result (λ (e : Entry). e ≡ entry_of (routine_from h c.args.code.now c.args.sheet.now))) c.read_head.ensures c.judge_rows.ensures.kept;
-      told = subst (λ (h : Head). IfOk c.judge_rows.result (λ (e : Entry). digest_of e ≡ digest (routine_from h c.args.code.now c.args.sheet.now))) c.read_head.ensures
+      kept = subst (λ (h : Head). IfOk c.judge_rows.result (λ (e : Entry). e ≡ entry_of (routine_from h c.args.code.now c.args.sheet.now))) c.read-head.ensures c.judge_rows.ensures.kept;
+      told = subst (λ (h : Head). IfOk c.judge_rows.result (λ (e : Entry). digest_of e ≡ digest (routine_from h c.args.code.now c.args.sheet.now))) c.read-head.ensures
           (made_so c.judge_rows.result (λ (e : Entry) (k : e ≡ entry_of R). ap digest_of k ∙ told_by_entry R none) c.judge_rows.ensures.kept);
-      called = subst (λ (h : Head). IfOk c.judge_rows.result (λ (e : Entry). KeepsCalls (routine_from h c.args.code.now c.args.sheet.now) e)) c.read_head.ensures c.judge_rows.ensures.called;
-      primed = subst (λ (h : Head). IfOk c.judge_rows.result (λ (e : Entry). PrimedByTheRowBefore (routine_from h c.args.code.now c.args.sheet.now))) c.read_head.ensures c.judge_rows.ensures.primed;
+      called = subst (λ (h : Head). IfOk c.judge_rows.result (λ (e : Entry). KeepsCalls (routine_from h c.args.code.now c.args.sheet.now) e)) c.read-head.ensures c.judge_rows.ensures.called;
+      primed = subst (λ (h : Head). IfOk c.judge_rows.result (λ (e : Entry). PrimedByTheRowBefore (routine_from h c.args.code.now c.args.sheet.now))) c.read-head.ensures c.judge_rows.ensures.primed;
     }

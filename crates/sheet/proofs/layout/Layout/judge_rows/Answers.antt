@@ -9,11 +9,11 @@ use Rattle.sheet.proofs.Before.{rising_here, before_here, tracks_on}
 use Rattle.sheet.proofs.layout.Layout.judge_rows.Goals as goal
 
 pub judge_row-requires : goal.judge_row-requires
-judge_row-requires c = (
-  c.requires,
-  before_here (routine c.args.self.now.candidate).rows c.args.self.now.candidate.sheet.now c.loop-link.before _ _ c.in-Some.link c.read_record-row.result
-      c.in-Some.ensures.next.0 c.read_record-row.ensures.value (routine c.args.self.now.candidate) refl c.loop-link.invariant.1 c.loop-link.invariant.2,
-)
+judge_row-requires c = record {
+  laid = c.requires;
+  row_value = before_here (routine c.args.self.now.candidate).rows c.args.self.now.candidate.sheet.now c.loop-link.before _ _ c.in-Some.link c.read_record-row.result
+      c.in-Some.ensures.next.0 c.read_record-row.ensures.value (routine c.args.self.now.candidate) refl c.loop-link.invariant.1 c.loop-link.invariant.2;
+}
 
 pub returns-in_err-judge_row : goal.returns-in_err-judge_row
 returns-in_err-judge_row c =
