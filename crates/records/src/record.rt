@@ -1,6 +1,6 @@
 // The one reader of chains, for every kind of record.
 ghost use Rattle.std.specs.Prelude.{◌≡◌, ℕ, suc, ◌<◌, ◌≤◌, List, length, None, Option, OnOk};
-ghost use Rattle.refusal.specs.Questions.{Asked, number as number_of_lem, verdict_of, first_no};
+ghost use Rattle.refusal.specs.Questions.{Asked, number as number_of, verdict_of, first_no};
 ghost use Rattle.records.specs.Records.{record_at, chain, records, along};
 ghost use Rattle.records.specs.Reader.{low, Rising};
 ghost use Rattle.records.specs.Ground.{Ground, ground};
@@ -24,7 +24,7 @@ pub trait Record: Copy {
     ghost asks: { Ground → ℕ → ℕ → Option Self → Self → List Asked };
 
     fn index_question() -> Question
-        ensures { number_of_lem result ≡ number };
+        ensures { number_of result ≡ number };
 
     fn read(bytes: &[u8]) -> Self
         ensures value { result ≡ reads bytes.now }
