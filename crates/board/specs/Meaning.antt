@@ -1,5 +1,5 @@
 -- What a board is: which addresses may be read and written, which hold a byte, and what an access answers and changes.
-use Rattle.std.specs.Prelude.{◌≡◌, ℕ, zero, suc, ◌+◌, ◌-◌, Bool, true, false, cond, ◌&&◌, ◌≢◌}
+use Rattle.std.specs.Prelude.{◌≡◌, ℕ, zero, suc, ◌+◌, ◌-◌, Bool, true, cond, ◌&&◌, ◌≢◌}
 use Rattle.refusal.specs.declared.Question.TheVariants.{AccessDenied}
 use Rattle.refusal.specs.declared.Refusal.{Refusal}
 use Rattle.board.specs.declared.Right.{Right}

@@ -1,5 +1,5 @@
 -- What the code leans on follows from the questions that an instruction of the table has passed.
-use Rattle.std.proofs.Common.{◌≡◌, ℕ, suc, ◌+◌, ◌-◌, ◌<◌, ◌≤◌, Bool, true, false, cond, ◌&&◌, eqb, leb, List, [], ◌∷◌, length, sym, refl, ap, ◌∙◌, subst, arith}
+use Rattle.std.proofs.Common.{◌≡◌, ℕ, suc, ◌+◌, ◌-◌, ◌<◌, ◌≤◌, Bool, true, false, cond, leb, length, refl, subst, arith}
 use Rattle.std.proofs.lemmas.Bool.{leb-true, and_parts}
 use Rattle.refusal.specs.Questions.{Verdict, accepted, refused, first_no}
 use Rattle.instruction.specs.declared.table.Place.TheVariants.{Absolute, Relative, Indexed}
@@ -8,7 +8,6 @@ use Rattle.instruction.specs.declared.table.Memory.TheVariants.{Nowhere, Read, W
 use Rattle.instruction.specs.declared.table.Family.{Family}
 use Rattle.instruction.specs.declared.decoding.Operand.{Operand}
 use Rattle.instruction.specs.declared.decoding.Instruction.{Instruction}
-use Rattle.instruction.specs.Table.{row_of}
 use Rattle.instruction.specs.Decode.{Listed}
 use Rattle.instruction.specs.Reach.{reached, reach}
 use Rattle.instruction.proofs.Rows.{reaches_enough, rowed}

@@ -1,5 +1,5 @@
 -- The frame law, a line for each kind, and the depth law, which follows from it.
-use Rattle.std.proofs.Common.{◌≡◌, ℕ, zero, suc, ◌+◌, ◌-◌, ◌*◌, ◌/◌, ◌%◌, ◌<◌, ◌≤◌, Bool, true, false, cond, ◌&&◌, eqb, leb, ◌≢◌, List, [], ◌∷◌, ◌++◌, length, get_or, take, drop, set, replicate, Some, None, Option, sym, refl, ap, ◌∙◌, subst, arith, length-append, length-drop, length-set, take-append-drop, length-take, get_or-set_other, get_or-set_same}
+use Rattle.std.proofs.Common.{◌≡◌, ℕ, zero, suc, ◌+◌, ◌-◌, ◌*◌, ◌%◌, ◌<◌, ◌≤◌, Bool, true, false, cond, eqb, leb, ◌≢◌, List, [], ◌∷◌, ◌++◌, length, get_or, take, drop, set, replicate, Some, None, Option, sym, refl, ap, ◌∙◌, subst, arith, length-append, length-drop, length-set, take-append-drop, length-take, get_or-set_other, get_or-set_same}
 use lib.ListN.{length-replicate}
 use Rattle.std.proofs.lemmas.Bool.{leb-true, eqb-true, eqb-false, and_parts}
 use Rattle.instruction.specs.declared.table.Kind.{Kind}
@@ -11,14 +11,14 @@ use Rattle.instruction.specs.declared.decoding.Operand.{Operand}
 use Rattle.instruction.specs.declared.decoding.Instruction.{Instruction}
 use Rattle.instruction.specs.Table.{row_of}
 use Rattle.instruction.specs.Decode.{Listed}
-use Rattle.instruction.specs.Flow.{turned, flow, ends, address_taken, address_left, own_takes, own_gives}
+use Rattle.instruction.specs.Flow.{turned, ends, address_taken, address_left, own_takes, own_gives}
 use Rattle.instruction.specs.Claim.{Knows, unsure, from_to, past, claim, learns}
 use Rattle.instruction.proofs.Rows.{turns_enough, rowed}
 use Rattle.machine.specs.Bytes.{rest}
 use Rattle.machine.specs.State.{State, tos, next}
 use Rattle.machine.specs.Effect.{effect, returns_after}
 use Rattle.machine.specs.Step.{does, wants, done}
-use Rattle.machine.specs.Law.{Deep, DepthLaw, On, Is, Agrees, Spans, Covered, pointers_after, Framed, Replaced, FrameLaw}
+use Rattle.machine.specs.Law.{DepthLaw, On, Is, Agrees, Spans, Covered, pointers_after, Framed, Replaced, FrameLaw}
 
 -- so many bytes on others, and what is done to them
 

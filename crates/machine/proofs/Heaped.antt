@@ -1,7 +1,7 @@
 -- How the list of a stack's bytes follows from its cells and its depth.
-use Rattle.std.proofs.Common.{◌≡◌, ℕ, zero, suc, ◌+◌, ◌-◌, ◌<◌, ◌≤◌, ◌≢◌, List, [], ◌∷◌, ◌++◌, reverse, length, get_or, take, drop, set, sym, refl, ap, ◌∙◌, arith, get_or-set_other, take-suc, get_or-set_same}
+use Rattle.std.proofs.Common.{◌≡◌, ℕ, zero, suc, ◌+◌, ◌<◌, ◌≤◌, ◌≢◌, List, [], ◌∷◌, ◌++◌, reverse, length, get_or, take, drop, set, sym, refl, ap, ◌∙◌, arith, get_or-set_other, take-suc, get_or-set_same}
 use Rattle.std.proofs.lemmas.List.{reverse-append}
-use Rattle.machine.specs.Bytes.{heaped, top, rest}
+use Rattle.machine.specs.Bytes.{heaped}
 
 pub length-heaped : (cells : List ℕ) (n : ℕ) → length (heaped cells n) ≡ n
 unfolding heaped

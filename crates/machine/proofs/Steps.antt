@@ -1,5 +1,5 @@
 -- What a step comes to, once its questions to the stacks are answered.
-use Rattle.std.proofs.Common.{◌≡◌, ℕ, Bool, true, false, cond, List, [], ◌∷◌, Some, None, Option, sym, refl, ap, ◌∙◌, subst}
+use Rattle.std.proofs.Common.{◌≡◌, ℕ, Bool, true, false, cond, [], ◌∷◌, Some, None, Option, sym, refl, ap, ◌∙◌}
 use Rattle.std.proofs.lemmas.Bool.{cond-true, cond-false}
 use Rattle.refusal.specs.Questions.{ask, Verdict, accepted, refused, first_no}
 use Rattle.refusal.proofs.Verdicts.{then, first_no-++}

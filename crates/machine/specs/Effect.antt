@@ -1,5 +1,5 @@
 -- What each kind of instruction does to the machine.
-use Rattle.std.specs.Prelude.{ℕ, ◌+◌, ◌-◌, ◌*◌, ◌/◌, ◌%◌, Bool, true, false, cond, List, [], ◌∷◌, ◌++◌, drop, replicate, ◌==◌, bit_and, bit_or, bit_xor, nat_le, slice_index, slice_set}
+use Rattle.std.specs.Prelude.{ℕ, ◌+◌, ◌-◌, ◌*◌, ◌/◌, ◌%◌, Bool, true, false, cond, List, ◌∷◌, ◌++◌, drop, replicate, ◌==◌, bit_and, bit_or, bit_xor, nat_le, slice_index, slice_set}
 use Rattle.instruction.specs.declared.table.Op.{Op}
 use Rattle.instruction.specs.declared.table.Op.TheVariants.{Add, And, Or, Xor}
 use Rattle.instruction.specs.declared.table.Kind.{Kind}

@@ -1,12 +1,12 @@
 -- One turn along a chain, and what an acceptance says of a whole chain.
-use Rattle.std.proofs.Common.{◌≡◌, ℕ, zero, suc, ◌+◌, ◌-◌, ◌*◌, ◌/◌, ◌<◌, ◌≤◌, Bool, true, false, cond, eqb, ltb, List, [], ◌∷◌, ◌++◌, Some, None, Option, sym, refl, ap, ◌∙◌, subst, arith}
+use Rattle.std.proofs.Common.{◌≡◌, ℕ, zero, suc, ◌+◌, ◌-◌, ◌≤◌, Bool, true, false, cond, ltb, List, [], ◌∷◌, Some, Option, sym, refl, ap, ◌∙◌, subst, arith}
 use Rattle.std.proofs.lemmas.Bool.{ne_eqb, cond-true}
 use Rattle.refusal.specs.Questions.{Asked, Verdict, accepted, refused, first_no}
 use Rattle.refusal.proofs.Verdicts.{then, first_no-++}
 use Rattle.records.specs.declared.chain.Link.{Link}
 use Rattle.records.specs.Lists.{each}
 use Rattle.records.specs.Reader.{low, Rising}
-use Rattle.records.specs.Records.{record_count, record_at, next_of, links, chain, records, along}
+use Rattle.records.specs.Records.{record_count, record_at, next_of, links, records, along}
 
 -- verdicts that accept
 

@@ -3,7 +3,6 @@ use Rattle.std.specs.Prelude.{ℕ, ◌+◌, ◌*◌, ◌/◌, ◌%◌, ◌^◌, 
 use Rattle.records.specs.declared.head.Head.{Head}
 use Rattle.records.specs.declared.window.Window.{Window}
 use Rattle.records.specs.declared.row.Row.{Row}
-use Rattle.records.specs.declared.row.Pointers.{Pointers}
 use Rattle.records.specs.Records.{word, long}
 
 abbrev pub read_head : List ℕ → Head

@@ -1,5 +1,5 @@
 -- What a reader of a chain has yet to give.
-use Rattle.std.specs.Prelude.{ℕ, suc, ◌<◌, ◌≤◌, List, [], ◌∷◌, Some, None, Option}
+use Rattle.std.specs.Prelude.{ℕ, suc, ◌≤◌, List, [], ◌∷◌, Some, None, Option}
 use Rattle.records.specs.declared.chain.Link.{Link}
 use Rattle.records.specs.declared.chain.Chain.{Chain}
 use Rattle.records.specs.Records.{links}

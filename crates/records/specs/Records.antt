@@ -1,5 +1,5 @@
 -- A sheet is a row of records of 18 bytes. Records are chained by their next index, and zero ends a chain.
-use Rattle.std.specs.Prelude.{ℕ, zero, suc, ◌+◌, ◌*◌, ◌/◌, Bool, cond, List, [], ◌∷◌, ◌++◌, length, take, drop, Some, None, Option, ◌==◌, nat_lt, slice_index}
+use Rattle.std.specs.Prelude.{ℕ, zero, suc, ◌+◌, ◌*◌, ◌/◌, cond, List, [], ◌∷◌, ◌++◌, length, take, drop, Some, Option, ◌==◌, nat_lt, slice_index}
 use Rattle.refusal.specs.Questions.{Asked, ask}
 use Rattle.records.specs.declared.chain.Link.{Link}
 

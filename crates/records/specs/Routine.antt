@@ -1,5 +1,5 @@
 -- A routine: a code with all that its sheet claims. A digest is what the sheets of others may know of it.
-use Rattle.std.specs.Prelude.{ℕ, ◌+◌, Bool, cond, eqb, List, [], ◌∷◌, Some, None, Option}
+use Rattle.std.specs.Prelude.{ℕ, ◌+◌, List, [], ◌∷◌, Some, None, Option}
 use Rattle.std.proofs.Math.ListN as lists
 use Rattle.instruction.specs.declared.decoding.Instruction.{Instruction}
 use Rattle.instruction.specs.Decode.{decoded, operand_size}

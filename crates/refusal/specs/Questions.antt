@@ -1,5 +1,5 @@
 -- A call asks its questions in a fixed order. Its verdict is the first that is answered no, by number and place.
-use Rattle.std.specs.Prelude.{◌≡◌, ℕ, Bool, true, false, cond, List, [], ◌∷◌, ◌++◌, Ok, Err, codes, decimal, Result}
+use Rattle.std.specs.Prelude.{◌≡◌, ℕ, Bool, true, cond, List, [], ◌∷◌, ◌++◌, Ok, Err, codes, decimal, Result}
 use Rattle.refusal.specs.declared.Question.{Question}
 use Rattle.refusal.specs.declared.Question.TheVariants.{BasePage, CodeArea, StackLimits, BoardShape, SheetSize, CodeSize, ParameterBytes, OutsideArea, Overlap, TooMany, WindowIndex, WindowShape, WindowCount, WindowReserved, WindowDenied, RowIndex, RowOffset, RowInstruction, RowBounds, FirstRow, RowShort, OutsideWindows, CalleeMissing, CalleeMisfit, ReturnMisfit, FollowerMissing, FollowerDepths, FollowerCycles, FollowerPointers, NoInstruction, DataShort, ReturnShort, DataFull, ReturnFull, AccessDenied}
 use Rattle.refusal.specs.declared.Refusal.{Refusal}

@@ -1,16 +1,15 @@
 -- What an acceptance says.
-use Rattle.std.proofs.Common.{◌≡◌, ℕ, zero, suc, ◌+◌, ◌<◌, ◌≤◌, Bool, true, false, cond, ◌&&◌, eqb, ltb, leb, List, [], ◌∷◌, ◌++◌, length, drop, is_some, IfOk, Some, None, Ok, Err, Option, Result, sym, refl, ap, ◌∙◌, subst, ⊎_elim, arith}
+use Rattle.std.proofs.Common.{◌≡◌, ℕ, suc, ◌+◌, ◌<◌, ◌≤◌, true, false, eqb, ltb, leb, List, [], ◌∷◌, length, drop, is_some, IfOk, Some, None, Ok, Err, Option, Result, refl, ap, ⊎_elim, arith}
 use Rattle.std.proofs.lemmas.List.{drop_all}
 use Rattle.std.proofs.lemmas.Bool.{ltb-true, leb-true, eqb-true, and_parts, cases_lt}
 use Rattle.std.specs.List.{AllByRecursion as All, list_all}
-use Rattle.refusal.specs.Questions.{Asked, Verdict, accepted, refused, first_no}
+use Rattle.refusal.specs.Questions.{Asked, accepted, first_no}
 use Rattle.instruction.specs.Decode.{decoded}
 use Rattle.records.specs.declared.chain.Link.{Link}
 use Rattle.records.specs.declared.window.Window.{Window}
-use Rattle.records.specs.declared.row.Row.{Row}
 use Rattle.records.specs.Records.{record_at, records, along, chain}
 use Rattle.records.specs.Read.{read_row, read_window}
-use Rattle.records.specs.Routine.{Routine, Digest, digest, digest_of, instruction_at, present}
+use Rattle.records.specs.Routine.{Routine, digest, digest_of, instruction_at, present}
 use Rattle.records.specs.Ground.{Ground}
 use Rattle.records.specs.Heads.{sized_as, few_parameters, in_area, apart, head_asks}
 use Rattle.records.specs.Windows.{shaped, window_asks}

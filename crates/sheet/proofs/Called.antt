@@ -1,9 +1,8 @@
 -- The origins that an accepted entry keeps as called: there is a place for each, since each is a fitted routine's.
 use Rattle.std.proofs.Common.{◌≡◌, ℕ, zero, suc, ◌<◌, ◌≤◌, Bool, true, false, cond, ◌||◌, eqb, List, [], ◌∷◌, length, replicate, is_some, Some, None, Option, sym, refl, ap, ◌∙◌, subst, ⊎_elim, arith}
-use Rattle.std.proofs.lemmas.List.{length-replicate}
 use Rattle.std.proofs.lemmas.Bool.{eq-eqb, eqb-true, ne_eqb, cond-true, cond-false, cases_eq, or_cases}
 use Rattle.std.specs.List.{AllByRecursion as All}
-use Rattle.refusal.specs.Questions.{Asked, accepted, refused, first_no}
+use Rattle.refusal.specs.Questions.{accepted, first_no}
 use Rattle.refusal.proofs.Verdicts.{first_no-++}
 use Rattle.instruction.specs.declared.decoding.Instruction.{Instruction}
 use Rattle.instruction.specs.declared.control.Flow.{Flow}

@@ -1,5 +1,5 @@
 -- Where an instruction goes on does not change when its address is taken modulo 65,536 first.
-use Rattle.std.proofs.Common.{◌≡◌, ℕ, ◌+◌, ◌%◌, refl, ap, arith}
+use Rattle.std.proofs.Common.{◌≡◌, ℕ, ◌%◌, ap, arith}
 use Rattle.instruction.specs.declared.decoding.Instruction.{Instruction}
 use Rattle.instruction.specs.Flow.{ends, turned, flow}
 

@@ -1,5 +1,5 @@
 -- The entry that a node keeps of an accepted sheet.
-use Rattle.std.specs.Prelude.{ℕ, Bool, true, false, cond, List, [], ◌∷◌, replicate, Some, None, Option, ◌==◌}
+use Rattle.std.specs.Prelude.{ℕ, cond, List, [], ◌∷◌, replicate, Some, None, Option, ◌==◌}
 use Rattle.std.specs.List.{slice_get}
 use Rattle.instruction.specs.declared.decoding.Instruction.{Instruction}
 use Rattle.instruction.specs.declared.control.Flow.{Flow}

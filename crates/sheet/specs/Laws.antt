@@ -1,5 +1,5 @@
 -- What holds of an accepted sheet.
-use Rattle.std.specs.Prelude.{◌≡◌, ℕ, Bool, true, false, List, ◌∷◌, ◌++◌, Some, None, Option, ◌==◌}
+use Rattle.std.specs.Prelude.{◌≡◌, ℕ, Bool, false, List, ◌∷◌, ◌++◌, Some, None, Option, ◌==◌}
 use Rattle.records.specs.declared.row.Row.{Row}
 use Rattle.records.specs.declared.entry.Entry.{Entry}
 use Rattle.records.specs.Lists.{any_pass}

@@ -1,12 +1,12 @@
-use Rattle.std.proofs.Common.{◌≡◌, ℕ, List, [], IfOk, sym, ap, ◌∙◌, subst}
-use Rattle.refusal.specs.Questions.{verdict_of, first_no}
+use Rattle.std.proofs.Common.{◌≡◌, ℕ, List, [], IfOk, ap, ◌∙◌, subst}
+use Rattle.refusal.specs.Questions.{first_no}
 use Rattle.board.specs.Cells.{cells_meaning}
 use Rattle.records.specs.declared.entry.Entry.{Entry}
 use Rattle.records.specs.Routine.{routine_of}
 use Rattle.records.specs.Ground.{may}
 use Rattle.sheet.specs.Questions.{questions}
 use Rattle.sheet.specs.Kept.{entry_of}
-use Rattle.fitting.specs.Input.{code_in, sheet_in}
+use Rattle.fitting.specs.Input.{code_in}
 use Rattle.fitting.proofs.fit.Goals as goal
 
 pub returns : goal.returns

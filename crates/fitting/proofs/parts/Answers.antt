@@ -1,4 +1,4 @@
-use Rattle.std.proofs.Common.{◌≡◌, ℕ, min, List, length, take, drop, sym, ap, ◌∙◌, subst, arith}
+use Rattle.std.proofs.Common.{◌≡◌, ℕ, min, List, length, take, drop, ap, ◌∙◌, arith}
 use Rattle.records.specs.Records.{word}
 use Rattle.fitting.proofs.Cuts.{take_min, drop_min, take-nothing, drop-nothing, rest-is}
 use Rattle.fitting.proofs.parts.Goals as goal

@@ -1,4 +1,4 @@
-use Rattle.std.proofs.Common.{Some, None, sym, ap, ◌∙◌}
+use Rattle.std.proofs.Common.{Some, None, ap, ◌∙◌}
 use Rattle.instruction.specs.Table.{at_place, placed}
 use Rattle.instruction.proofs.Lookup.{item_nth}
 use Rattle.instruction.proofs.decoding.at_place.Goals as goal

@@ -1,4 +1,4 @@
-use Rattle.std.proofs.Common.{◌≡◌, ℕ, cond, ltb, length, sym, ap, ◌∙◌, arith}
+use Rattle.std.proofs.Common.{ℕ, cond, ltb, length, sym, ap, ◌∙◌, arith}
 use Rattle.std.proofs.lemmas.Result.{err_from_is_err_and}
 use Rattle.refusal.specs.Questions.{accepted, refused}
 use Rattle.records.proofs.Along.{along_none, along_bad, along_no, along_yes, rising_turn, rising_end}

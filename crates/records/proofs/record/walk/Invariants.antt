@@ -1,4 +1,4 @@
-use Rattle.std.proofs.Common.{◌≡◌, ℕ, ◌+◌, ◌≤◌, length, None}
+use Rattle.std.proofs.Common.{◌≡◌, ◌+◌, ◌≤◌, length, None}
 use Rattle.refusal.specs.Questions.{first_no}
 use Rattle.records.specs.Records.{chain, records, along}
 use Rattle.records.specs.Reader.{ahead, low, Rising}

@@ -1,4 +1,4 @@
-use Rattle.std.proofs.Common.{◌≡◌, sym, refl, ◌∙◌, arith}
+use Rattle.std.proofs.Common.{arith}
 use Rattle.sheet.proofs.Entries.{entry_hit, entry_miss, entry_end}
 use Rattle.sheet.proofs.call.entry_at.Goals as goal
 

@@ -1,9 +1,7 @@
-use Rattle.std.proofs.Common.{◌≡◌, None, sym, refl, ap, ◌∙◌, subst, rules}
+use Rattle.std.proofs.Common.{sym, refl, ap, ◌∙◌, subst, rules}
 use Rattle.refusal.specs.Questions.{first_no}
 use Rattle.records.specs.Lists.{each}
 use Rattle.refusal.proofs.Verdicts.{first_no-++}
-use Rattle.records.specs.Read.{read_row}
-use Rattle.records.specs.Rows.{row_asks}
 use Rattle.records.specs.Ground.{ground}
 use Rattle.records.specs.declared.scene.Candidate.{Candidate}
 use Rattle.records.specs.declared.entry.Entry.{Entry}

@@ -1,6 +1,6 @@
-use Rattle.std.proofs.Common.{◌≡◌, Bool, true, false, ◌&&◌, sym, refl, ap, ◌∙◌, arith, rules}
+use Rattle.std.proofs.Common.{◌&&◌, sym, refl, ap, ◌∙◌, arith}
 use Rattle.board.specs.Meaning.{spans}
-use Rattle.board.proofs.Parted.{lower_spans, upper_spans, both_span}
+use Rattle.board.proofs.Parted.{lower_spans, both_span}
 use Rattle.board.proofs.split.SplitBoard.may.Goals as goal
 
 pub returns-then-last-self : goal.returns-then-last-self

@@ -1,12 +1,12 @@
 -- What the access and the instruction lean on follows from the questions before them.
-use Rattle.std.proofs.Common.{◌≡◌, sym, refl, ap, ◌∙◌, subst}
+use Rattle.std.proofs.Common.{sym, ap, ◌∙◌, subst}
 use Rattle.std.proofs.lemmas.Result.{err_from_is_err_and}
 use Rattle.refusal.specs.declared.Refusal.{Refusal}
 use Rattle.refusal.specs.Questions.{number, refused, verdict_of}
 use Rattle.instruction.specs.declared.reach.MemoryOperand.{MemoryOperand}
 use Rattle.instruction.proofs.Rows.{rowed}
 use Rattle.machine.specs.State.{view}
-use Rattle.machine.specs.Step.{Outcome, asked}
+use Rattle.machine.specs.Step.{asked}
 use Rattle.machine.specs.Suits.{Reaches}
 use Rattle.machine.proofs.Agree.{passes, reaches, suits}
 use Rattle.machine.proofs.Steps.{blocked, denied, performed}

@@ -1,4 +1,4 @@
-use Rattle.std.proofs.Common.{◌≡◌, drop, Some, None, Option, sym, refl, ap, ◌∙◌}
+use Rattle.std.proofs.Common.{drop, sym, ap, ◌∙◌}
 use Rattle.instruction.proofs.Rows.{listed-decoded}
 use Rattle.machine.specs.State.{view}
 use Rattle.machine.specs.Step.{offset, after, stepped}

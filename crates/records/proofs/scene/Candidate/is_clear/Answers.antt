@@ -1,4 +1,4 @@
-use Rattle.std.proofs.Common.{◌≡◌, sym, ◌∙◌, arith}
+use Rattle.std.proofs.Common.{sym, ◌∙◌, arith}
 use Rattle.records.specs.Routine.{routine, digest_of}
 use Rattle.records.specs.Heads.{apart}
 use Rattle.records.proofs.Slices.{all_stop, all-on, all_end, all_digests}

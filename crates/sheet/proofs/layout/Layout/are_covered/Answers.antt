@@ -1,4 +1,4 @@
-use Rattle.std.proofs.Common.{◌≡◌, sym, ◌∙◌, arith}
+use Rattle.std.proofs.Common.{sym, arith}
 use Rattle.records.specs.Routine.{routine}
 use Rattle.records.proofs.Slices.{all_stop, all-on, all_end}
 use Rattle.sheet.specs.Calls.{covered}

@@ -1,4 +1,4 @@
-use Rattle.std.proofs.Common.{◌≡◌, List, replicate, sym, refl, ◌∙◌, subst, arith, length-set}
+use Rattle.std.proofs.Common.{List, replicate, sym, refl, ◌∙◌, subst, length-set}
 use Rattle.records.specs.declared.chain.Link.{Link}
 use Rattle.records.specs.Records.{records, chain}
 use Rattle.records.specs.Read.{read_row}

@@ -1,8 +1,8 @@
-use Rattle.std.proofs.Common.{◌≡◌, ℕ, ◌<◌, cond, eqb, length, get_or}
+use Rattle.std.proofs.Common.{◌≡◌, length}
 use Rattle.records.specs.Records.{records, chain}
 use Rattle.records.specs.Read.{read_row}
-use Rattle.records.specs.Reader.{ahead, Rising}
-use Rattle.sheet.specs.Layouts.{index_at, Low}
+use Rattle.records.specs.Reader.{ahead}
+use Rattle.sheet.specs.Layouts.{Low}
 use Rattle.sheet.proofs.Tables.{Filling, Fresh}
 use Rattle.sheet.proofs.layout.table.locate.Given as goal
 

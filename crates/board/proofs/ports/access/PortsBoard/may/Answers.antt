@@ -1,4 +1,4 @@
-use Rattle.std.proofs.Common.{◌≡◌, sym, ap, ◌∙◌, arith}
+use Rattle.std.proofs.Common.{sym, ◌∙◌, arith}
 use Rattle.board.specs.Meaning.{allowed}
 use Rattle.board.specs.Ports.{ports_meaning}
 use Rattle.board.proofs.Every.{between_yes, between_no, each_more}
