@@ -1,7 +1,7 @@
 -- What holds of every row of the table, by one test that is computed over the whole table.
 use Rattle.std.proofs.Common.{◌≡◌, ℕ, ◌+◌, ◌-◌, ◌*◌, ◌≤◌, Bool, true, false, cond, ◌&&◌, eqb, leb, List, [], ◌∷◌, Some, None, Option, sym, refl, ap, ◌∙◌, subst, ⊎_elim, arith}
 use Rattle.std.proofs.lemmas.Bool.{leb-true, eqb-true, cond-true, cond-false, cases_Bool, and_parts}
-use Rattle.std.specs.List.{AllByRecursion as All}
+use Rattle.std.specs.List.{AllByRecursion}
 use Rattle.instruction.specs.declared.table.Place.TheVariants.{Absolute, Relative, Indexed}
 use Rattle.instruction.specs.declared.table.Memory.{Memory}
 use Rattle.instruction.specs.declared.table.Memory.TheVariants.{Nowhere, Read, Write}
@@ -21,7 +21,7 @@ pub no_some : {A : Type 0} (x : A) → Some x ≡ None → ⊥
 no_some x e = let z : ◌≡◌ {A = ℕ} 0 1 = cc in omega arith
 
 -- a family that is found has what all have, and the opcode
-pub found_has : (P : Family → Type 0) (fs : List Family) (opcode : ℕ) (f : Family) → All P fs → found fs opcode ≡ Some f → P f × (holds f opcode ≡ true)
+pub found_has : (P : Family → Type 0) (fs : List Family) (opcode : ℕ) (f : Family) → AllByRecursion P fs → found fs opcode ≡ Some f → P f × (holds f opcode ≡ true)
 found_has P [] opcode f all e = absurd (no_some f (sym e))
 found_has P (g ∷ gs) opcode f all e =
     ⊎_elim
@@ -59,7 +59,7 @@ sound f =
 abbrev pub Sound : Family → Type 0
 Sound f = (f ≡ row_of f.kind) × (sound f ≡ true)
 
-all_sound : All Sound families
+all_sound : AllByRecursion Sound families
 unfolding families
 all_sound = ((refl, refl), ((refl, refl), ((refl, refl), ((refl, refl), ((refl, refl), ((refl, refl), ((refl, refl), ((refl, refl), ((refl, refl), ((refl, refl), ((refl, refl), ((refl, refl), ((refl, refl), ((refl, refl), ((refl, refl), ((refl, refl), ((refl, refl), ((refl, refl), ((refl, refl), ((refl, refl), ((refl, refl), ((refl, refl), ((refl, refl), ((refl, refl), ((refl, refl), ((refl, refl), ((refl, refl), ((refl, refl), ((refl, refl), ((refl, refl), ((refl, refl), ((refl, refl), ((refl, refl), ((refl, refl), ((refl, refl), ((refl, refl), ((refl, refl), ((refl, refl), ((refl, refl), ((refl, refl), ((refl, refl), ((refl, refl), ((refl, refl), ((refl, refl), ((refl, refl), ((refl, refl), ((refl, refl), ((refl, refl), ((refl, refl), ((refl, refl), ((refl, refl), ((refl, refl), ((refl, refl), ((refl, refl), ((refl, refl), ((refl, refl), ((refl, refl), ((refl, refl), ((refl, refl), ((refl, refl), ((refl, refl), ((refl, refl), ((refl, refl), ((refl, refl), ((refl, refl), ((refl, refl), ((refl, refl), ((refl, refl), ((refl, refl), ((refl, refl), ((refl, refl), ((refl, refl), ((refl, refl), ((refl, refl), ((refl, refl), ((refl, refl), ((refl, refl), tt)))))))))))))))))))))))))))))))))))))))))))))))))))))))))))))))))))))))))))))
 

@@ -2,7 +2,7 @@
 use Rattle.std.proofs.Common.{◌≡◌, ℕ, suc, ◌+◌, ◌<◌, ◌≤◌, true, false, eqb, ltb, leb, List, [], ◌∷◌, length, drop, is_some, IfOk, Some, None, Ok, Err, Option, Result, refl, ap, ⊎_elim, arith}
 use Rattle.std.proofs.lemmas.List.{drop_all}
 use Rattle.std.proofs.lemmas.Bool.{ltb-true, leb-true, eqb-true, and_parts, cases_lt}
-use Rattle.std.specs.List.{AllByRecursion as All, list_all}
+use Rattle.std.specs.List.{AllByRecursion, list_all}
 use Rattle.refusal.specs.Questions.{Asked, accepted, first_no}
 use Rattle.instruction.specs.Decode.{decoded}
 use Rattle.records.specs.declared.chain.Link.{Link}
@@ -21,7 +21,7 @@ use Rattle.sheet.specs.Kept.{eight_places, entry_of}
 -- what a kind's questions say of a record holds of each record of an accepted chain
 module _ {R : Type 0} (number : ℕ) (read : List ℕ → R) (asks : ℕ → ℕ → Option R → R → List Asked) (sheet : List ℕ) (P : R → Type 0)
     (says : (nth i : ℕ) (before : Option R) (r : R) → accepted ≡ first_no (asks nth i before r) → P r) where
-  pub along-all : (nth : ℕ) (before : Option R) (ls : List Link) → accepted ≡ first_no (along number read asks sheet nth before ls) → All P (records read sheet ls)
+  pub along-all : (nth : ℕ) (before : Option R) (ls : List Link) → accepted ≡ first_no (along number read asks sheet nth before ls) → AllByRecursion P (records read sheet ls)
   along-all nth before [] pass = tt
   along-all nth before (l ∷ ls) pass =
       let turn = along-passed number read asks sheet nth before ls l pass in

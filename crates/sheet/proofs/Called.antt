@@ -1,7 +1,7 @@
 -- The origins that an accepted entry keeps as called: there is a place for each, since each is a fitted routine's.
 use Rattle.std.proofs.Common.{◌≡◌, ℕ, zero, suc, ◌<◌, ◌≤◌, Bool, true, false, cond, ◌||◌, eqb, List, [], ◌∷◌, length, replicate, is_some, Some, None, Option, sym, refl, ap, ◌∙◌, subst, ⊎_elim, arith}
 use Rattle.std.proofs.lemmas.Bool.{eq-eqb, eqb-true, ne_eqb, cond-true, cond-false, cases_eq, or_cases}
-use Rattle.std.specs.List.{AllByRecursion as All}
+use Rattle.std.specs.List.{AllByRecursion}
 use Rattle.refusal.specs.Questions.{accepted, first_no}
 use Rattle.refusal.proofs.Verdicts.{first_no-++}
 use Rattle.instruction.specs.declared.decoding.Instruction.{Instruction}
@@ -170,7 +170,7 @@ KnownCall os None = Unit {0}
 KnownCall os (Some t) = is_in t os ≡ true
 
 module _ (R : Routine) (os : List ℕ) where
-  calls_law : (rows : List Row) (ps : List (Option ℕ)) (s : ℕ) → length os < length ps → Fits os ps → All (λ r. KnownCall os (call_of R r)) rows
+  calls_law : (rows : List Row) (ps : List (Option ℕ)) (s : ℕ) → length os < length ps → Fits os ps → AllByRecursion (λ r. KnownCall os (call_of R r)) rows
       → lists s (calls_of R ps rows) ≡ (lists s ps || any_pass (λ r. is_origin s (call_of R r)) rows)
   calls_law [] ps s h f all = or_no (lists s ps)
   calls_law (r ∷ rs) ps s h f all = go (call_of R r) all.0 (λ qs h2 f2. calls_law rs qs s h2 f2 all.1)
@@ -229,7 +229,7 @@ module _ (R : Routine) (Ds : List Digest) (i : ℕ) (r : Row) where
   unfolding step_asks
   by_row e = by_instruction (instruction_at R r) e
 
-by_rows : (R : Routine) (Ds : List Digest) (sheet : List ℕ) (ls : List Link) → accepted ≡ first_no (each (step_at R Ds sheet) ls) → All (λ r. KnownCall (origins Ds) (call_of R r)) (records read_row sheet ls)
+by_rows : (R : Routine) (Ds : List Digest) (sheet : List ℕ) (ls : List Link) → accepted ≡ first_no (each (step_at R Ds sheet) ls) → AllByRecursion (λ r. KnownCall (origins Ds) (call_of R r)) (records read_row sheet ls)
 unfolding each
 by_rows R Ds sheet [] e = tt
 by_rows R Ds sheet (l ∷ ls) e =
@@ -249,4 +249,4 @@ unfolding entry_of
 keeps_calls R Ds sheet ls rows few pass t =
     let start : length (origins Ds) < length (replicate 32 no_origin) = subst (λ (n : ℕ). n < 32) (sym (origins-length Ds)) few in
     calls_law R (origins Ds) R.rows (replicate 32 None) t start (fits-empty (origins Ds) (replicate 32 None) (all-empty 32))
-    (subst (λ (z : List Row). All (λ r. KnownCall (origins Ds) (call_of R r)) z) (sym rows) (by_rows R Ds sheet ls pass))
+    (subst (λ (z : List Row). AllByRecursion (λ r. KnownCall (origins Ds) (call_of R r)) z) (sym rows) (by_rows R Ds sheet ls pass))

@@ -1,6 +1,6 @@
 -- The rows of a candidate by their offsets.
 use Rattle.std.specs.Prelude.{◌≡◌, ℕ, ◌<◌, cond, List, [], ◌∷◌, None, ◌==◌, slice_index}
-use Rattle.std.specs.List.{AllByRecursion as All}
+use Rattle.std.specs.List.{AllByRecursion}
 use Rattle.records.specs.declared.chain.Link.{Link}
 use Rattle.records.specs.declared.row.Row.{Row}
 use Rattle.records.specs.declared.scene.Candidate.{Candidate}
@@ -21,7 +21,7 @@ Locates table sheet ls = (o : ℕ) → o < 1024 → slice_index table o ≡ inde
 
 -- each row stands below 1,024
 abbrev pub Low : List Row → Type 0
-Low rows = All (λ r. r.offset < 1024) rows
+Low rows = AllByRecursion (λ r. r.offset < 1024) rows
 
 -- The rows of a candidate have been judged one by one: their offsets rise and are low.
 pub record Read (c : Candidate) : Type 0 where
