@@ -2,7 +2,7 @@
 use Rattle.std.specs.Prelude.{Bool, true, false, ◌||◌, List, [], ◌∷◌, ◌++◌}
 use Rattle.refusal.specs.Questions.{Asked}
 
--- some element passes a test; `all_pass` of the standard library says it of each
+-- some element passes a test; `list_all` of the standard library says it of each
 abbrev pub any_pass : {P : Type 0} → (P → Bool) → List P → Bool
 any_pass test [] = false
 any_pass test (p ∷ ps) = test p || any_pass test ps

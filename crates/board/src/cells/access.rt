@@ -1,7 +1,7 @@
 ghost use Rattle.std.specs.Prelude.{◌≡◌, ◌<◌, [], ◌∷◌, take, IfOk};
 ghost use Rattle.refusal.specs.Questions.{verdict_of, first_no, ask as asked};
 ghost use Rattle.board.specs.Cells.{owns, owns_ends, with_byte, cells_meaning, cells_fit, NewCells};
-ghost use Rattle.std.proofs.Common.{rules, arith};
+ghost use Rattle.std.proofs.Common.{rules};
 
 use super::Cells;
 use crate::{Board, Right, denied};
@@ -58,7 +58,7 @@ impl Cells {
 impl Board for Cells {
     ghost meaning = { cells_meaning };
 
-    ghost lawful = { first_of (Prim.search rules, Prim.grind (arith, Self.row.coded.inj)) };
+    ghost lawful = { Prim.search rules };
 
     fn may(&self, _right: Right, first: u16, last: u16) -> bool {
         self.owns_ends(first, last)
