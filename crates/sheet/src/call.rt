@@ -83,7 +83,7 @@ impl Layout<'_> {
     }
 
     // Asks of a call, and of the row that it comes back to.
-    pub fn judge_call(
+    pub(crate) fn judge_call(
         &self,
         fitted: &[Entry],
         place: u8,

@@ -113,7 +113,12 @@ impl Layout<'_> {
     }
 
     // The pointers known after the instruction of a row.
-    pub fn known_after(&self, before: Option<Row>, row: Row, instruction: &Instruction) -> Pointers
+    pub(crate) fn known_after(
+        &self,
+        before: Option<Row>,
+        row: Row,
+        instruction: &Instruction,
+    ) -> Pointers
         requires { primed (routine self.now.candidate) row ≡ word_from (routine self.now.candidate) row before }
         ensures { result ≡ seen (learns instruction.now (knows (routine self.now.candidate) row)) }
     {

@@ -122,7 +122,7 @@ impl Layout<'_> {
     }
 
     // Asks of each row in the order of the chain.
-    pub fn judge_rows(&self, fitted: &[Entry]) -> Result<(), Refusal>
+    pub(crate) fn judge_rows(&self, fitted: &[Entry]) -> Result<(), Refusal>
         requires { Laid self.now }
         ensures { verdict_of result ≡ first_no (each (step_at (routine self.now.candidate) (digests_of fitted.now) self.now.candidate.sheet.now) (chain self.now.candidate.sheet.now self.now.candidate.head.rows)) }
     {

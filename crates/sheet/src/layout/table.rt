@@ -25,7 +25,7 @@ fn locate(candidate: &Candidate<'_>) -> [u8; 1024]
 }
 
 impl<'a> Layout<'a> {
-    pub fn new(candidate: Candidate<'a>) -> Layout<'a>
+    pub(crate) fn new(candidate: Candidate<'a>) -> Layout<'a>
         requires { Read candidate }
         ensures candidate { result.candidate ≡ candidate.entry }
         ensures laid { Laid result }
@@ -47,7 +47,7 @@ impl Layout<'_> {
     }
 
     // The row that stands at an address.
-    pub fn row_at(&self, address: u16) -> Option<Row>
+    pub(crate) fn row_at(&self, address: u16) -> Option<Row>
         requires { Laid self.now }
         ensures { result ≡ follower (routine self.now.candidate) address }
     {
