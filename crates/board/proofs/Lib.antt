@@ -1,4 +1,5 @@
 mod Every
-mod Owned
-mod Index
-mod Parted
+pub mod Owned
+pub mod Outputs
+pub mod Parted
+pub mod Ranges

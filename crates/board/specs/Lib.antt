@@ -2,4 +2,5 @@ pub mod Meaning
 pub mod Cells
 pub mod Addresses
 pub mod Ports
+pub mod Outputs
 pub mod Split

@@ -1,5 +1,6 @@
 -- What a board is: which addresses may be read and written, which hold a byte, and what an access answers and changes.
-use Rattle.std.specs.Prelude.{◌≡◌, ℕ, zero, suc, ◌+◌, ◌-◌, Bool, true, cond, ◌&&◌, ◌≢◌}
+use Rattle.std.specs.Prelude.{◌≡◌, ℕ, suc, ◌-◌, Bool, true, cond, ◌&&◌, ◌≢◌}
+use Rattle.std.specs.List.{list_all, range_with_len}
 use Rattle.refusal.specs.declared.Question.TheVariants.{AccessDenied}
 use Rattle.refusal.specs.declared.Refusal.{Refusal}
 use Rattle.board.specs.declared.Right.{Right}
@@ -46,14 +47,9 @@ allowed m b Read a = m.readable b a
 allowed m b Write a = m.writable b a
 allowed m b Both a = m.readable b a && m.writable b a
 
--- the test passes at each number below n
-unfoldable pub every : (ℕ → Bool) → ℕ → Bool
-every p zero = true
-every p (suc n) = every p n && p n
-
 -- the test passes at each number from the first to the last
-abbrev pub between : (ℕ → Bool) → ℕ → ℕ → Bool
-between p first last = every (λ k. p (first + k)) (suc last - first)
+unfoldable pub between : (ℕ → Bool) → ℕ → ℕ → Bool
+between p first last = list_all p (range_with_len first (suc last - first))
 
 -- the board has the right at every address from the first to the last
 abbrev pub spans : {B : Type 0} → Meaning B → B → Right → ℕ → ℕ → Bool

@@ -1,14 +1,23 @@
 // Memory cells: up to 512 addresses from a first one, all readable, writable and held.
-ghost use Rattle.std.specs.Prelude.{◌≡◌, ◌+◌, ◌≤◌, length};
+use arrayvec::ArrayVec;
+use std::marker::Model;
 
 mod access;
 
 #[derive(Drop)]
 pub struct Cells {
     first: u16,
-    count: u16,
-    bytes: [u8; 512],
-    ghost few: { count ≤ 512 },
-    ghost inside: { first + count ≤ 65536 },
-    ghost sized: { length bytes ≡ 512 },
+    bytes: ArrayVec<u8, 512>,
+}
+
+impl Model for Cells {
+    ghost use Rattle.std.specs.Prelude.{◌+◌, ◌≤◌};
+    ghost use Rattle.arrayvec.specs.ArrayVec.{array_vec_len};
+    ghost use Rattle.board.specs.Cells.{Cells as Shown};
+
+    ghost Value = { Shown };
+
+    ghost view = { λ c. record { first = c.first; bytes = c.bytes.items } };
+
+    ghost invariant = { λ c. c.first + array_vec_len c.bytes ≤ 65536 };
 }

@@ -7,7 +7,6 @@ ghost use Rattle.board.specs.Meaning.{Meaning, Lawful, answer, spans, denied};
 
 use refusal::{Question, Refusal};
 
-mod addresses;
 mod cells;
 mod ports;
 mod split;
@@ -17,7 +16,7 @@ pub use ports::Ports;
 pub use split::Split;
 
 // What may be done at an address.
-#[derive(Clone, Copy)]
+#[derive(Clone, Copy, PartialEq, Eq, Debug)]
 pub enum Right {
     Read,
     Write,
@@ -28,7 +27,7 @@ pub trait Board {
     ghost meaning: { Meaning Self };
 
     // Whether every address from the first to the last has the right. Where the first is past the last there is none, and
-    // the answer is yes.
+    // the answer is yes. (Two addresses, as records and settings have them: a range would be taken apart at each use.)
     fn may(&self, right: Right, first: u16, last: u16) -> bool
         ensures { result ≡ spans meaning self.now right first last };
 
@@ -51,6 +50,6 @@ pub fn denied(at: u16) -> Refusal
 {
     Refusal {
         question: Question::AccessDenied,
-        place: at as usize,
+        place: usize::from(at),
     }
 }

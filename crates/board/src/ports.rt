@@ -1,14 +1,30 @@
 // Ports: up to 16 input and 16 output addresses, all live. Reads hand out the samples one after another and then zeros, and
 // each output keeps its latest byte.
-use super::addresses::Addresses;
+use arrayvec::ArrayVec;
+use std::marker::Model;
+use std::vec;
 
 mod access;
 
 #[derive(Drop)]
 pub struct Ports {
-    inputs: Addresses,
-    outputs: Addresses,
-    latest: [u8; 16],
-    samples: Vec<u8>,
-    next: usize,
+    inputs: ArrayVec<u16, 16>,
+    outputs: ArrayVec<Output, 16>,
+    samples: vec::IntoIter<u8>,
+}
+
+// An output address, and the byte that was written to it last.
+#[derive(Clone, Copy, Default)]
+struct Output {
+    at: u16,
+    latest: u8,
+}
+
+impl Model for Ports {
+    ghost use Rattle.std.specs.Vec.Iter.{into_iter_items};
+    ghost use Rattle.board.specs.Ports.{Ports as Shown};
+
+    ghost Value = { Shown };
+
+    ghost view = { λ p. record { inputs = p.inputs.items; outputs = p.outputs.items; samples = into_iter_items p.samples } };
 }

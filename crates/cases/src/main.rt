@@ -4,31 +4,47 @@
 
 mod script;
 
-use board::{Board, Cells};
-use fitting::{cells, settings};
+use board::Cells;
+use fitting::{Verdict, cells, settings};
 use machine::Settings;
 use records::Entry;
 use script::Command;
 use sheet::examine;
+use std::alloc::Global;
 use std::io;
 use std::io::Read;
 
-// Examines a sheet against what is fitted, keeps the entry of an accepted one, and prints the verdict.
-fn fit(
-    rt: &impl Print,
-    settings: &Settings,
-    board: &Cells,
-    fitted: &mut Vec<Entry>,
-    code: &[u8],
-    sheet: &[u8],
-) -> io::Result<()> {
-    match examine(settings, fitted.as_slice(), board, code, sheet) {
-        Ok(entry) => {
-            let worst = entry.worst;
-            fitted.push(entry)?;
-            println!(rt; "  FIT {worst}")
+// The planner's node, and what is fitted there.
+#[derive(Drop)]
+struct Node {
+    settings: Settings,
+    board: Cells,
+    fitted: Vec<Entry>,
+}
+
+impl Node {
+    fn new(heap: Global) -> Node {
+        Node {
+            settings: settings(),
+            board: cells(),
+            fitted: Vec::new(heap),
         }
-        Err(refusal) => println!(rt; "  {refusal}"),
+    }
+
+    // Examines a sheet against what is fitted, keeps the entry of an accepted one, and prints the verdict.
+    fn fit(&mut self, rt: &impl Print, code: &[u8], sheet: &[u8]) -> io::Result<()> {
+        let examined = examine(
+            &self.settings,
+            self.fitted.as_slice(),
+            &self.board,
+            code,
+            sheet,
+        );
+        if let Ok(entry) = examined {
+            self.fitted.push(entry)?;
+        }
+        let verdict = Verdict(examined);
+        println!(rt; "  {verdict}")
     }
 }
 
@@ -36,19 +52,16 @@ fn main(rt: HostRuntime) -> io::Result<()> {
     let heap = rt.alloc();
     let mut text = String::new(heap);
     rt.stdin().read_to_string(&mut text)?;
-    let settings = settings();
-    let board = cells();
-    let mut fitted = Vec::new(heap);
+    let mut node = Node::new(heap);
     for line in text.lines() {
         match script::read(heap, line)? {
-            Command::Blank => (),
-            Command::Comment => println!(rt; "{line}")?,
-            Command::Node => fitted.clear(),
-            Command::Fit(code, sheet) => {
-                let code = code.as_slice();
-                fit(&rt, &settings, &board, &mut fitted, code, sheet.as_slice())?;
+            Some(Command::Blank) => (),
+            Some(Command::Comment) => println!(rt; "{line}")?,
+            Some(Command::Node) => node.fitted.clear(),
+            Some(Command::Fit(code, sheet)) => {
+                node.fit(&rt, code.as_slice(), sheet.as_slice())?;
             }
-            Command::Unknown => println!(rt; "  not understood")?,
+            None => println!(rt; "  not understood")?,
         }
     }
     Ok(())

@@ -10,7 +10,6 @@ pub enum Command {
     Node,
     // Fit a code with a sheet.
     Fit(Vec<u8>, Vec<u8>),
-    Unknown,
 }
 
 // Bytes in hexadecimal, or a dash for none.
@@ -20,29 +19,28 @@ fn field(heap: Global, text: &str) -> Result<Option<Vec<u8>>, AllocError> {
 }
 
 // The code and the sheet after the word `fit`.
-fn fit(heap: Global, fields: &str) -> Result<Command, AllocError> {
+fn fit(heap: Global, fields: &str) -> Result<Option<Command>, AllocError> {
+    // A line that is not understood is no error, as the script goes on after it.
     let Some((code, sheet)) = fields.split_once(' ') else {
-        return Ok(Command::Unknown);
+        return Ok(None);
     };
-    match (field(heap, code)?, field(heap, sheet)?) {
-        (Some(code), Some(sheet)) => Ok(Command::Fit(code, sheet)),
-        _ => Ok(Command::Unknown),
-    }
+    let both = field(heap, code)?.zip(field(heap, sheet)?);
+    Ok(both.map(|(code, sheet)| Command::Fit(code, sheet)))
 }
 
-// Reads a line.
-pub fn read(heap: Global, line: &str) -> Result<Command, AllocError> {
+// Reads a line, if it is understood. Each form is told by a test of its own.
+pub fn read(heap: Global, line: &str) -> Result<Option<Command>, AllocError> {
     if line.is_empty() {
-        return Ok(Command::Blank);
+        return Ok(Some(Command::Blank));
     }
     if line.starts_with('#') {
-        return Ok(Command::Comment);
+        return Ok(Some(Command::Comment));
     }
     if line == "node" {
-        return Ok(Command::Node);
+        return Ok(Some(Command::Node));
     }
     match line.strip_prefix("fit ") {
         Some(fields) => fit(heap, fields),
-        None => Ok(Command::Unknown),
+        None => Ok(None),
     }
 }

@@ -2,7 +2,9 @@
 ghost use Rattle.std.specs.Prelude.{◌≡◌, [], ◌∷◌, IfOk, vec_len, slice_index};
 
 use crate::layout::{LAYOUTS, Layout};
+use crate::state::Trial;
 use instruction::Family;
+use machine::Code;
 use std::alloc::{AllocError, Global};
 
 pub const REGISTERS: [u8; 16] = [
@@ -35,16 +37,13 @@ pub struct Case {
 fn column(heap: Global, depth: u8, top: u8, next: u8, salt: u8) -> Result<Vec<u8>, AllocError>
     ensures { IfOk result (λ v. vec_len v ≡ depth) }
 {
-    let mut bytes = Vec::with_capacity(heap, depth as usize)?;
-    for i in 0..depth {
-        let byte = match depth - 1 - i {
+    (0..depth)
+        .map(|i| match depth - 1 - i {
             0 => top,
             1 => next,
             _ => i.wrapping_mul(7).wrapping_add(salt),
-        };
-        bytes.push(byte)?;
-    }
-    Ok(bytes)
+        })
+        .collect(heap)
 }
 
 impl Case {
@@ -88,9 +87,15 @@ impl Case {
         [0x00, self.opcode, high, low]
     }
 
-    // Where that code begins.
-    pub fn code_first(&self) -> u16 {
-        self.ip.wrapping_sub(1)
+    // A step from this state, where a code begins a byte before the instruction.
+    pub(crate) fn trial<'a>(&'a self, bytes: &'a [u8]) -> Trial<'a> {
+        Trial {
+            case: self,
+            code: Code {
+                bytes,
+                first: self.ip.wrapping_sub(1),
+            },
+        }
     }
 
     // The bytes of the data stack, the top one last.

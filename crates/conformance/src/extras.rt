@@ -2,64 +2,19 @@
 use crate::axis::{ADDRESSES, Axis, product};
 use crate::case::Case;
 use crate::failure::Failure;
-use crate::tally::{Code, Tally};
+use crate::state::Trial;
+use crate::tally::Tally;
 use instruction::FAMILIES;
+use machine::Code;
 use std::alloc::Global;
-use std::fmt;
-
-// What is compared besides the rows.
-#[derive(Clone, Copy)]
-pub enum Extra {
-    NoInstruction,
-    EmptyCode,
-    OutsideCode,
-    CutInstructions,
-    LongCode,
-}
-
-pub const EXTRAS: [Extra; 5] = [
-    Extra::NoInstruction,
-    Extra::EmptyCode,
-    Extra::OutsideCode,
-    Extra::CutInstructions,
-    Extra::LongCode,
-];
 
 const DEPTHS: [u8; 4] = [0, 1, 12, 255];
 
-impl fmt::Display for Extra {
-    fn fmt<W: fmt::Write>(&self, f: &mut fmt::Formatter<W>) -> fmt::Result {
-        let words = match self {
-            Extra::NoInstruction => "opcodes of no row",
-            Extra::EmptyCode => "empty code",
-            Extra::OutsideCode => "ip outside the code",
-            Extra::CutInstructions => "cut instructions",
-            Extra::LongCode => "code longer than the area",
-        };
-        write!(f, "{words}")
-    }
-}
-
-impl Extra {
-    pub fn compare(self, heap: Global) -> Result<Tally, Failure> {
-        match self {
-            Extra::NoInstruction => no_instruction(heap),
-            Extra::EmptyCode => empty_code(heap),
-            Extra::OutsideCode => outside_code(heap),
-            Extra::CutInstructions => cut_instructions(heap),
-            Extra::LongCode => long_code(heap),
-        }
-    }
-}
-
 // Whether a row has the opcode.
 fn is_listed(opcode: u8) -> bool {
-    for family in &FAMILIES {
-        if family.first <= opcode && opcode <= family.last {
-            return true;
-        }
-    }
-    false
+    FAMILIES
+        .iter()
+        .any(|family| (family.first..=family.last).contains(&opcode))
 }
 
 // An opcode that no row has.
@@ -72,27 +27,23 @@ fn compare_unlisted(heap: Global, tally: &mut Tally, opcode: u8) -> Result<(), F
                 returns: depth,
                 ..Case::new(opcode)
             };
-            let code = Code {
-                bytes: &case.code(),
-                first: case.code_first(),
-            };
-            tally.compare_refused(heap, &case, code)?;
+            tally.compare_refused(heap, case.trial(&case.code()))?;
         }
     }
     Ok(())
 }
 
-fn no_instruction(heap: Global) -> Result<Tally, Failure> {
+// Every opcode that no row has.
+pub(crate) fn no_instruction(heap: Global) -> Result<Tally, Failure> {
     let mut tally = Tally::new();
-    for opcode in 0x00..=0xFF {
-        if !is_listed(opcode) {
-            compare_unlisted(heap, &mut tally, opcode)?;
-        }
+    for opcode in (0x00..=0xFF).filter(|opcode| !is_listed(*opcode)) {
+        compare_unlisted(heap, &mut tally, opcode)?;
     }
     Ok(tally)
 }
 
-fn empty_code(heap: Global) -> Result<Tally, Failure> {
+// A code of no byte.
+pub(crate) fn empty_code(heap: Global) -> Result<Tally, Failure> {
     let mut tally = Tally::new();
     for ip in ADDRESSES {
         for first in ADDRESSES {
@@ -103,7 +54,8 @@ fn empty_code(heap: Global) -> Result<Tally, Failure> {
                     returns: depth,
                     ..Case::new(0x3D)
                 };
-                tally.compare_refused(heap, &case, Code { bytes: &[], first })?;
+                let code = Code { bytes: &[], first };
+                tally.compare_refused(heap, Trial { case: &case, code })?;
             }
         }
     }
@@ -111,7 +63,7 @@ fn empty_code(heap: Global) -> Result<Tally, Failure> {
 }
 
 // A code of four bytes, with the instruction address right after it, right before it and farther off.
-fn outside_code(heap: Global) -> Result<Tally, Failure> {
+pub(crate) fn outside_code(heap: Global) -> Result<Tally, Failure> {
     let mut tally = Tally::new();
     // Instructions of one, two and three bytes.
     for opcode in [0x3D, 0x71, 0x77] {
@@ -121,35 +73,29 @@ fn outside_code(heap: Global) -> Result<Tally, Failure> {
                     ip: first.wrapping_add(offset),
                     ..Case::new(opcode)
                 };
-                let bytes = &[opcode; 4];
-                tally.compare_refused(heap, &case, Code { bytes, first })?;
+                let code = Code {
+                    bytes: &[opcode; 4],
+                    first,
+                };
+                tally.compare_refused(heap, Trial { case: &case, code })?;
             }
         }
     }
     Ok(tally)
 }
 
-// An instruction of which so many bytes are left.
-fn compare_cut(heap: Global, tally: &mut Tally, case: &Case, left: u8) -> Result<(), Failure> {
-    let mut bytes = Vec::new(heap);
-    for byte in case.code().iter().take(left as usize + 1) {
-        bytes.push(*byte)?;
-    }
-    let code = Code {
-        bytes: bytes.as_slice(),
-        first: case.code_first(),
-    };
-    tally.compare_refused(heap, case, code)
-}
-
-fn cut_instructions(heap: Global) -> Result<Tally, Failure> {
+// Instructions of which a byte or two are missing at the end of the code.
+pub(crate) fn cut_instructions(heap: Global) -> Result<Tally, Failure> {
     let mut tally = Tally::new();
     let axes = [Axis::Address, Axis::Operand, Axis::Depth, Axis::Returns];
     for family in &FAMILIES {
         for opcode in family.first..=family.last {
-            for left in 1..family.size {
+            // No instruction has more than three bytes.
+            for left in 1..family.size.min(3) {
                 for case in &product(heap, family, Case::of(family, opcode), &axes)? {
-                    compare_cut(heap, &mut tally, case, left)?;
+                    // The byte before the instruction, and what is left of it.
+                    let bytes = &case.code()[..=usize::from(left)];
+                    tally.compare_refused(heap, case.trial(bytes))?;
                 }
             }
         }
@@ -164,19 +110,19 @@ fn compare_long(heap: Global, tally: &mut Tally, bytes: &[u8], first: u16) -> Re
             ip: first.wrapping_add(offset),
             ..Case::new(0x3D)
         };
-        tally.compare(heap, &case, Code { bytes, first })?;
+        let code = Code { bytes, first };
+        tally.compare(heap, Trial { case: &case, code })?;
     }
     Ok(())
 }
 
 // A code of more bytes than a code area has, and one of more bytes than there are addresses.
-fn long_code(heap: Global) -> Result<Tally, Failure> {
+pub(crate) fn long_code(heap: Global) -> Result<Tally, Failure> {
     let mut tally = Tally::new();
     for size in [8200u32, 65540] {
-        let mut bytes = Vec::new(heap);
-        for i in 0..size {
-            bytes.push((i.wrapping_mul(37) % 256) as u8)?;
-        }
+        let bytes: Vec<u8> = (0..size)
+            .map(|i| i.to_le_bytes()[0].wrapping_mul(37))
+            .collect(heap)?;
         for first in [0x4000, 0xF000] {
             compare_long(heap, &mut tally, bytes.as_slice(), first)?;
         }

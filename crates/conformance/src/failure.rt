@@ -2,16 +2,22 @@
 use refusal::Refusal;
 use std::alloc::{AllocError, AllocFailed};
 use std::io;
+use thiserror::Error;
 
-#[derive(Debug, Drop)]
+#[derive(Debug, Drop, Error)]
 pub enum Failure {
+    #[error("no memory is left")]
     NoMemory,
     // A state that cannot be built: a stack of more than 255 bytes, or settings or a board that were refused.
+    #[error("a stack is too deep")]
     TooDeep,
-    Setup(Refusal),
-    Output(io::Error),
+    #[error("{0}")]
+    Setup(#[from] Refusal),
+    #[error(transparent)]
+    Output(#[from] io::Error),
 }
 
+// By hand, as a derive would keep the error, and the program, which ends by showing this, would show that too.
 impl From<AllocError> for Failure {
     fn from(_error: AllocError) -> Failure {
         Failure::NoMemory
@@ -21,17 +27,5 @@ impl From<AllocError> for Failure {
 impl<T: Drop> From<AllocFailed<T>> for Failure {
     fn from(_refused: AllocFailed<T>) -> Failure {
         Failure::NoMemory
-    }
-}
-
-impl From<Refusal> for Failure {
-    fn from(refusal: Refusal) -> Failure {
-        Failure::Setup(refusal)
-    }
-}
-
-impl From<io::Error> for Failure {
-    fn from(error: io::Error) -> Failure {
-        Failure::Output(error)
     }
 }

@@ -59,15 +59,11 @@ pub const LAYOUTS: [Layout; 5] = [
 pub fn initial(place: u16) -> u8
     ensures { result ≡ (place * 5 + 28) % 256 }
 {
-    ((place as u32 * 5 + 28) % 256) as u8
+    (u32::from(place) * 5 + 28).to_le_bytes()[0]
 }
 
 pub fn initial_bytes(heap: Global, count: u16) -> Result<Vec<u8>, AllocError>
     ensures { IfOk result (λ v. vec_len v ≡ count) }
 {
-    let mut bytes = Vec::with_capacity(heap, count as usize)?;
-    for i in 0..count {
-        bytes.push(initial(i))?;
-    }
-    Ok(bytes)
+    (0..count).map(initial).collect(heap)
 }

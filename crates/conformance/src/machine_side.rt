@@ -2,9 +2,9 @@
 use crate::case::{Case, FILL, REGISTERS};
 use crate::failure::Failure;
 use crate::layout::{INPUTS, Layout, OUTPUTS, initial};
-use crate::state::{State, Verdict};
+use crate::state::{Refused, Side, State, Verdict};
 use board::{Board, Cells, Ports, Split};
-use machine::{Machine, Settings, Stack};
+use machine::{Code, Machine, Settings, Stack};
 use std::alloc::Global;
 
 #[derive(Drop)]
@@ -33,13 +33,14 @@ fn machine_of(heap: Global, case: &Case) -> Result<Machine, Failure> {
 // A board that refuses to be filled shows as a difference in what it holds.
 fn board_of(heap: Global, layout: &Layout) -> Result<Split<Cells, Ports>, Failure> {
     let mut lower = Cells::new(layout.first, layout.count)?;
-    for i in 0..layout.count {
-        let _ = lower.write(layout.first.wrapping_add(i), initial(i));
+    // Counted in u16, as `initial` takes a place: an index of `enumerate` would have to be cast.
+    for place in 0..layout.count {
+        let _ = lower.write(layout.first.wrapping_add(place), initial(place));
     }
     let samples = Vec::from_slice(heap, layout.samples)?;
     let mut upper = Ports::new(&INPUTS, &OUTPUTS, samples)?;
-    for (i, at) in (0..4).zip(OUTPUTS) {
-        let _ = upper.write(at, initial(i));
+    for (place, at) in (0..4).zip(OUTPUTS) {
+        let _ = upper.write(at, initial(place));
     }
     Ok(Split {
         lower,
@@ -48,9 +49,9 @@ fn board_of(heap: Global, layout: &Layout) -> Result<Split<Cells, Ports>, Failur
     })
 }
 
-impl MachineSide {
+impl Side for MachineSide {
     // A step looks at the limits and the fill byte of the settings alone.
-    pub fn new(heap: Global, case: &Case) -> Result<MachineSide, Failure> {
+    fn new(heap: Global, case: &Case) -> Result<MachineSide, Failure> {
         let (page, first, last) = (0xE000, 0x4000, 0x4FFF);
         Ok(MachineSide {
             settings: Settings::new(page, first, last, case.stack_limit, case.return_limit, FILL)?,
@@ -59,24 +60,17 @@ impl MachineSide {
         })
     }
 
-    pub fn step(&mut self, code: &[u8], first: u16) -> Verdict {
-        match self
-            .machine
-            .step(&self.settings, code, first, &mut self.board)
-        {
-            Ok(()) => Verdict::Done,
-            Err(refusal) => Verdict::Refused {
-                number: refusal.question.number(),
-                place: refusal.place,
-            },
-        }
+    fn step(&mut self, code: Code) -> Result<Verdict, Failure> {
+        let step = self.machine.step(&self.settings, code, &mut self.board);
+        Ok(step.map_err(|refusal| Refused {
+            number: refusal.question.number(),
+            place: refusal.place,
+        }))
     }
 
-    pub fn state(mut self, heap: Global) -> Result<State, Failure> {
-        let mut outputs = Vec::new(heap);
-        for at in OUTPUTS {
-            outputs.push(self.board.upper.latest(at))?;
-        }
+    fn state(mut self, heap: Global) -> Result<State, Failure> {
+        let ports = &self.board.upper;
+        let outputs = OUTPUTS.iter().map(|at| ports.latest(*at)).collect(heap)?;
         Ok(State {
             stack: Vec::from_slice(heap, self.machine.stack.as_slice())?,
             returns: Vec::from_slice(heap, self.machine.returns.as_slice())?,

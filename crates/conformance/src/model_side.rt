@@ -1,10 +1,11 @@
 // The interpreter that goes by the opcode byte, set up by a case.
 use crate::case::{Case, FILL, REGISTERS};
 use crate::failure::Failure;
-use crate::layout::{INPUTS, Layout, OUTPUTS, initial_bytes};
-use crate::state::{State, Verdict};
-use second::{Limits, Memory, Model};
-use std::alloc::Global;
+use crate::layout::{INPUTS, Layout, OUTPUTS, initial, initial_bytes};
+use crate::state::{Refused, Side, State, Verdict};
+use machine::Code;
+use second::{Limits, Memory, Model, Output, Stop};
+use std::alloc::{AllocError, Global};
 
 #[derive(Drop)]
 pub struct ModelSide {
@@ -13,7 +14,7 @@ pub struct ModelSide {
     memory: Memory,
 }
 
-fn model_of(heap: Global, case: &Case) -> Result<Model, Failure> {
+fn model_of(heap: Global, case: &Case) -> Result<Model, AllocError> {
     Ok(Model {
         stack: case.stack(heap)?,
         returns: case.return_stack(heap)?,
@@ -25,26 +26,33 @@ fn model_of(heap: Global, case: &Case) -> Result<Model, Failure> {
     })
 }
 
-fn memory_of(heap: Global, layout: &Layout) -> Result<Memory, Failure> {
-    let mut memory = Memory::new(
-        heap,
-        layout.boundary,
-        layout.first,
-        initial_bytes(heap, layout.count)?,
-        Vec::from_slice(heap, &INPUTS)?,
-        Vec::from_slice(heap, layout.samples)?,
-        Vec::from_slice(heap, &OUTPUTS)?,
-    )?;
-    memory.latest = initial_bytes(heap, OUTPUTS.len() as u16)?;
-    Ok(memory)
+fn outputs(heap: Global) -> Result<Vec<Output>, AllocError> {
+    (0..4)
+        .zip(OUTPUTS)
+        .map(|(place, at)| Output {
+            at,
+            latest: initial(place),
+        })
+        .collect(heap)
 }
 
-impl ModelSide {
-    pub fn new(heap: Global, case: &Case) -> Result<ModelSide, Failure> {
+fn memory_of(heap: Global, layout: &Layout) -> Result<Memory, AllocError> {
+    Ok(Memory {
+        boundary: layout.boundary,
+        first: layout.first,
+        cells: initial_bytes(heap, layout.count)?,
+        inputs: Vec::from_slice(heap, &INPUTS)?,
+        samples: layout.samples.iter().copied().collect(heap)?,
+        outputs: outputs(heap)?,
+    })
+}
+
+impl Side for ModelSide {
+    fn new(heap: Global, case: &Case) -> Result<ModelSide, Failure> {
         Ok(ModelSide {
             limits: Limits {
-                stack: case.stack_limit as usize,
-                returns: case.return_limit as usize,
+                stack: usize::from(case.stack_limit),
+                returns: usize::from(case.return_limit),
                 fill: FILL,
             },
             model: model_of(heap, case)?,
@@ -52,34 +60,44 @@ impl ModelSide {
         })
     }
 
-    pub fn step(&mut self, code: &[u8], first: u16) -> Result<Verdict, Failure> {
-        let place = self.model.ip as usize;
+    fn step(&mut self, code: Code) -> Result<Verdict, Failure> {
+        let place = usize::from(self.model.ip);
         match self
             .model
-            .step(&self.limits, code, first, &mut self.memory)?
+            .step(&self.limits, code.bytes, code.first, &mut self.memory)
         {
-            None => Ok(Verdict::Done),
-            Some(number) => Ok(Verdict::Refused { number, place }),
+            Ok(()) => Ok(Ok(())),
+            Err(Stop::Refused(fault)) => Ok(Err(Refused {
+                number: fault.number(),
+                place,
+            })),
+            Err(Stop::NoMemory) => Err(Failure::NoMemory),
         }
     }
 
-    pub fn state(mut self, heap: Global) -> Result<State, Failure> {
+    fn state(mut self, heap: Global) -> Result<State, Failure> {
         let sample = self.memory.read(INPUTS[0]);
-        let mut outputs = Vec::new(heap);
-        for byte in &self.memory.latest {
-            outputs.push(Some(*byte))?;
-        }
-        let registers = self.model.registers;
-        let pointers = self.model.pointers;
+        let outputs = &self.memory.outputs;
+        let outputs = outputs
+            .iter()
+            .map(|output| Some(output.latest))
+            .collect(heap)?;
+        let ModelSide {
+            limits: _,
+            model,
+            memory,
+        } = self;
+        let registers = model.registers;
+        let pointers = model.pointers;
         Ok(State {
-            stack: self.model.stack,
-            returns: self.model.returns,
+            stack: model.stack,
+            returns: model.returns,
             registers,
             pointers,
-            carry: self.model.carry,
-            ip: self.model.ip,
-            cycles: self.model.cycles,
-            cells: self.memory.cells,
+            carry: model.carry,
+            ip: model.ip,
+            cycles: model.cycles,
+            cells: memory.cells,
             outputs,
             sample,
         })

@@ -1,70 +1,57 @@
 // What the program prints: a line for each row and each of the other places, the first difference of each, and the totals.
-use crate::extras::EXTRAS;
+use crate::extras;
 use crate::failure::Failure;
 use crate::rows::compare_row;
-use crate::tally::Tally;
-use instruction::{FAMILIES, Family};
-use text::Pattern;
+use crate::show::Row;
+use crate::tally::{Counts, Tally};
+use instruction::FAMILIES;
+use std::fmt::Display;
 
-#[derive(Drop)]
-struct Total {
-    cases: u64,
-    different: u64,
-}
-
-impl Total {
-    fn add(&mut self, tally: &Tally) {
-        self.cases = self.cases.saturating_add(tally.cases);
-        self.different = self.different.saturating_add(tally.different);
-    }
-}
-
-fn print_opcodes(rt: &HostRuntime, family: &Family) -> Result<(), Failure> {
-    let first = family.first;
-    let last = family.last;
-    if first == last {
-        print!(rt; "{first:02X}")?;
-    } else {
-        print!(rt; "{first:02X}-{last:02X}")?;
-    }
-    Ok(())
-}
-
-fn print_tally(rt: &HostRuntime, tally: &Tally) -> Result<(), Failure> {
-    let cases = tally.cases;
-    let different = tally.different;
-    match &tally.example {
-        None => println!(rt; ": {cases} cases, same")?,
-        Some(example) => {
-            println!(rt; ": {cases} cases, {different} DIFFERENT; the first:")?;
-            println!(rt; "{example}")?;
-        }
-    }
+// Prints what was compared and how it came out, and adds it to the total.
+fn report<N: Display>(
+    rt: &HostRuntime,
+    total: &mut Counts,
+    name: &N,
+    tally: Tally,
+) -> Result<(), Failure> {
+    println!(rt; "{name}: {tally}")?;
+    total.add(tally.counts);
     Ok(())
 }
 
 pub fn run(rt: &HostRuntime) -> Result<(), Failure> {
-    let mut total = Total {
-        cases: 0,
-        different: 0,
-    };
+    let heap = rt.alloc();
+    let mut total = Counts::default();
     for family in &FAMILIES {
-        let tally = compare_row(rt.alloc(), family)?;
-        print_opcodes(rt, family)?;
-        let pattern = Pattern(family);
-        print!(rt; " {pattern}")?;
-        print_tally(rt, &tally)?;
-        total.add(&tally);
+        report(rt, &mut total, &Row(family), compare_row(heap, family)?)?;
     }
-    for extra in &EXTRAS {
-        let tally = extra.compare(rt.alloc())?;
-        print!(rt; "{extra}")?;
-        print_tally(rt, &tally)?;
-        total.add(&tally);
-    }
+    report(
+        rt,
+        &mut total,
+        &"opcodes of no row",
+        extras::no_instruction(heap)?,
+    )?;
+    report(rt, &mut total, &"empty code", extras::empty_code(heap)?)?;
+    report(
+        rt,
+        &mut total,
+        &"ip outside the code",
+        extras::outside_code(heap)?,
+    )?;
+    report(
+        rt,
+        &mut total,
+        &"cut instructions",
+        extras::cut_instructions(heap)?,
+    )?;
+    report(
+        rt,
+        &mut total,
+        &"code longer than the area",
+        extras::long_code(heap)?,
+    )?;
     let rows = FAMILIES.len();
-    let cases = total.cases;
-    let different = total.different;
+    let Counts { cases, different } = total;
     println!(rt; "{rows} rows, {cases} cases, {different} differences")?;
     Ok(())
 }

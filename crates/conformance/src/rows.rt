@@ -2,72 +2,53 @@
 use crate::axis::{Axis, product};
 use crate::case::Case;
 use crate::failure::Failure;
-use crate::tally::{Code, Tally};
+use crate::state::Trial;
+use crate::tally::Tally;
 use instruction::{Family, Memory};
 use std::alloc::Global;
 
-// What is combined with what: bytes and addresses where the stacks are deep enough; depths and limits; boards.
-#[derive(Clone, Copy)]
-enum Plan {
-    Values,
-    Depths,
-    Boards,
-}
+// Bytes and addresses, where the stacks are deep enough.
+const VALUES: [Axis; 7] = [
+    Axis::Operand,
+    Axis::Top,
+    Axis::Next,
+    Axis::Carry,
+    Axis::Pointers,
+    Axis::Address,
+    Axis::Cycles,
+];
 
-impl Plan {
-    fn axes(self) -> &'static [Axis] {
-        match self {
-            Plan::Values => &[
-                Axis::Operand,
-                Axis::Top,
-                Axis::Next,
-                Axis::Carry,
-                Axis::Pointers,
-                Axis::Address,
-                Axis::Cycles,
-            ],
-            Plan::Depths => &[
-                Axis::Operand,
-                Axis::Depth,
-                Axis::StackLimit,
-                Axis::Returns,
-                Axis::ReturnLimit,
-                Axis::Test,
-                Axis::Carry,
-                Axis::Pointers,
-            ],
-            Plan::Boards => &[
-                Axis::Layout,
-                Axis::Operand,
-                Axis::Top,
-                Axis::Next,
-                Axis::Pointers,
-            ],
-        }
-    }
-}
+// Depths and limits.
+const DEPTHS: [Axis; 8] = [
+    Axis::Operand,
+    Axis::Depth,
+    Axis::StackLimit,
+    Axis::Returns,
+    Axis::ReturnLimit,
+    Axis::Test,
+    Axis::Carry,
+    Axis::Pointers,
+];
 
-fn plans(family: &Family) -> &'static [Plan] {
-    match family.memory {
-        Memory::Nowhere => &[Plan::Values, Plan::Depths],
-        _ => &[Plan::Values, Plan::Depths, Plan::Boards],
-    }
-}
+// Boards.
+const BOARDS: [Axis; 5] = [
+    Axis::Layout,
+    Axis::Operand,
+    Axis::Top,
+    Axis::Next,
+    Axis::Pointers,
+];
 
-// Compares the cases of a plan at one opcode.
-fn compare_plan(
+// Compares one opcode at every combination of the axes' values.
+fn compare_product(
     heap: Global,
     tally: &mut Tally,
     family: &Family,
     opcode: u8,
-    plan: Plan,
+    axes: &[Axis],
 ) -> Result<(), Failure> {
-    for case in &product(heap, family, Case::of(family, opcode), plan.axes())? {
-        let code = Code {
-            bytes: &case.code(),
-            first: case.code_first(),
-        };
-        tally.compare(heap, case, code)?;
+    for case in &product(heap, family, Case::of(family, opcode), axes)? {
+        tally.compare(heap, case.trial(&case.code()))?;
     }
     Ok(())
 }
@@ -76,8 +57,10 @@ fn compare_plan(
 pub fn compare_row(heap: Global, family: &Family) -> Result<Tally, Failure> {
     let mut tally = Tally::new();
     for opcode in family.first..=family.last {
-        for plan in plans(family) {
-            compare_plan(heap, &mut tally, family, opcode, *plan)?;
+        compare_product(heap, &mut tally, family, opcode, &VALUES)?;
+        compare_product(heap, &mut tally, family, opcode, &DEPTHS)?;
+        if !matches!(family.memory, Memory::Nowhere) {
+            compare_product(heap, &mut tally, family, opcode, &BOARDS)?;
         }
     }
     Ok(tally)

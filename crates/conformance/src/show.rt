@@ -1,10 +1,12 @@
 // States and differences as text.
 use crate::case::FILL;
-use crate::state::{Outcome, State, Verdict};
-use crate::tally::Difference;
+use crate::state::{Outcome, Refused, State};
+use crate::tally::{Counts, Difference, Tally};
+use instruction::Family;
 use std::fmt;
+use text::{Numbers, Pattern};
 
-// Bytes in hexadecimal, each after a space.
+// Bytes in hexadecimal, each after a space. (Not the numbers of crate text, which write a dash where there is none.)
 #[derive(Clone, Copy)]
 struct Hex<'a>(&'a [u8]);
 
@@ -17,12 +19,20 @@ impl fmt::Display for Hex<'_> {
     }
 }
 
-impl fmt::Display for Verdict {
+// A row of the table: its opcodes and its pattern.
+#[derive(Clone, Copy)]
+pub struct Row<'a>(pub &'a Family);
+
+impl fmt::Display for Row<'_> {
     fn fmt<W: fmt::Write>(&self, f: &mut fmt::Formatter<W>) -> fmt::Result {
-        match self {
-            Verdict::Done => write!(f, "done"),
-            Verdict::Refused { number, place } => write!(f, "NO {number} AT {place}"),
+        let first = self.0.first;
+        let last = self.0.last;
+        let pattern = Pattern(self.0);
+        write!(f, "{first:02X}")?;
+        if first != last {
+            write!(f, "-{last:02X}")?;
         }
+        write!(f, " {pattern}")
     }
 }
 
@@ -31,7 +41,7 @@ impl fmt::Display for State {
         let stack = Hex(self.stack.as_slice());
         let returns = Hex(self.returns.as_slice());
         let registers = Hex(&self.registers);
-        let [p0, p1, p2, p3] = self.pointers;
+        let pointers = Numbers::<u16, 4>(&self.pointers);
         let carry = self.carry;
         let ip = self.ip;
         let cycles = self.cycles;
@@ -41,7 +51,7 @@ impl fmt::Display for State {
         writeln!(f, "    data stack, the top last:{stack}")?;
         writeln!(f, "    return stack, the top last:{returns}")?;
         writeln!(f, "    registers:{registers}")?;
-        writeln!(f, "    pointers: {p0:04X} {p1:04X} {p2:04X} {p3:04X}")?;
+        writeln!(f, "    pointers: {pointers}")?;
         writeln!(f, "    carry: {carry}, ip: {ip:04X}, cycles: {cycles}")?;
         writeln!(f, "    cells:{cells}")?;
         write!(f, "    outputs: {outputs:?}, next sample: {sample:?}")
@@ -50,9 +60,11 @@ impl fmt::Display for State {
 
 impl fmt::Display for Outcome {
     fn fmt<W: fmt::Write>(&self, f: &mut fmt::Formatter<W>) -> fmt::Result {
-        let verdict = self.verdict;
+        match self.verdict {
+            Ok(()) => writeln!(f, "done")?,
+            Err(Refused { number, place }) => writeln!(f, "NO {number} AT {place}")?,
+        }
         let state = &self.state;
-        writeln!(f, "{verdict}")?;
         write!(f, "{state}")
     }
 }
@@ -85,5 +97,18 @@ impl fmt::Display for Difference {
         writeln!(f, "{before}")?;
         writeln!(f, "  after the machine's step: {machine}")?;
         write!(f, "  after the model's step: {model}")
+    }
+}
+
+impl fmt::Display for Tally {
+    fn fmt<W: fmt::Write>(&self, f: &mut fmt::Formatter<W>) -> fmt::Result {
+        let Counts { cases, different } = self.counts;
+        match &self.example {
+            None => write!(f, "{cases} cases, same"),
+            Some(example) => write!(
+                f,
+                "{cases} cases, {different} DIFFERENT; the first:\n{example}"
+            ),
+        }
     }
 }

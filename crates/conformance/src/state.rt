@@ -1,10 +1,25 @@
 // What a step leaves, in one form for both interpreters.
+use crate::case::Case;
+use crate::failure::Failure;
+use machine::Code;
+use std::alloc::Global;
 
-#[derive(Clone, Copy, PartialEq)]
-pub enum Verdict {
-    Done,
-    Refused { number: u8, place: usize },
+// What is stepped: the state that a case describes, where a code stands.
+#[derive(Clone, Copy)]
+pub struct Trial<'a> {
+    pub case: &'a Case,
+    pub code: Code<'a>,
 }
+
+// The number of the question that was answered no, and the place that it was asked of. (A number, as each interpreter has a list of
+// questions of its own.)
+#[derive(Clone, Copy, PartialEq)]
+pub struct Refused {
+    pub number: u8,
+    pub place: usize,
+}
+
+pub type Verdict = Result<(), Refused>;
 
 #[derive(PartialEq, Drop)]
 pub struct State {
@@ -27,4 +42,24 @@ pub struct State {
 pub struct Outcome {
     pub verdict: Verdict,
     pub state: State,
+}
+
+// An interpreter with its settings and its board.
+pub(crate) trait Side: Drop + Sized {
+    // In the state that a case describes.
+    fn new(heap: Global, case: &Case) -> Result<Self, Failure>;
+
+    fn step(&mut self, code: Code) -> Result<Verdict, Failure>;
+
+    fn state(self, heap: Global) -> Result<State, Failure>;
+}
+
+// What one step from the trial's state leaves.
+pub(crate) fn one_step<S: Side>(heap: Global, trial: Trial) -> Result<Outcome, Failure> {
+    let mut side = S::new(heap, trial.case)?;
+    let verdict = side.step(trial.code)?;
+    Ok(Outcome {
+        verdict,
+        state: side.state(heap)?,
+    })
 }

@@ -3,16 +3,9 @@ use crate::case::Case;
 use crate::failure::Failure;
 use crate::machine_side::MachineSide;
 use crate::model_side::ModelSide;
-use crate::state::{Outcome, State, Verdict};
+use crate::state::{Outcome, Refused, Side, State, Trial, one_step};
 use refusal::Question;
 use std::alloc::Global;
-
-// A code, and the address at which it begins.
-#[derive(Clone, Copy)]
-pub struct Code<'a> {
-    pub bytes: &'a [u8],
-    pub first: u16,
-}
 
 // What both interpreters leave.
 #[derive(Drop)]
@@ -22,21 +15,11 @@ pub struct Pair {
 }
 
 impl Pair {
-    // One step of each, from the case's state.
-    fn step(heap: Global, case: &Case, code: Code) -> Result<Pair, Failure> {
-        let mut machine = MachineSide::new(heap, case)?;
-        let mut model = ModelSide::new(heap, case)?;
-        let machine_verdict = machine.step(code.bytes, code.first);
-        let model_verdict = model.step(code.bytes, code.first)?;
+    // One step of each, from the trial's state.
+    fn step(heap: Global, trial: Trial) -> Result<Pair, Failure> {
         Ok(Pair {
-            machine: Outcome {
-                verdict: machine_verdict,
-                state: machine.state(heap)?,
-            },
-            model: Outcome {
-                verdict: model_verdict,
-                state: model.state(heap)?,
-            },
+            machine: one_step::<MachineSide>(heap, trial)?,
+            model: one_step::<ModelSide>(heap, trial)?,
         })
     }
 }
@@ -53,28 +36,52 @@ pub struct Difference {
     pub after: Pair,
 }
 
-#[derive(Drop)]
-pub struct Tally {
+// How many cases were compared, and at how many of them the two differ.
+#[derive(Clone, Copy, Default)]
+pub struct Counts {
     pub cases: u64,
     pub different: u64,
+}
+
+impl Counts {
+    pub(crate) fn add(&mut self, others: Counts) {
+        self.cases = self.cases.saturating_add(others.cases);
+        self.different = self.different.saturating_add(others.different);
+    }
+}
+
+#[derive(Drop)]
+pub struct Tally {
+    pub counts: Counts,
     pub example: Option<Difference>,
 }
 
 impl Tally {
     pub fn new() -> Tally {
         Tally {
-            cases: 0,
-            different: 0,
+            counts: Counts::default(),
             example: None,
         }
     }
 
-    fn note(&mut self, heap: Global, case: &Case, code: Code, after: Pair) -> Result<(), Failure> {
-        self.different = self.different.saturating_add(1);
-        if self.example.is_some() {
+    // Counts a trial, and keeps the first at which the two are not as they should be. (The allocator is passed along, as the library
+    // does, and kept nowhere.)
+    fn count(
+        &mut self,
+        heap: Global,
+        trial: Trial,
+        after: Pair,
+        right: bool,
+    ) -> Result<(), Failure> {
+        self.counts.add(Counts {
+            cases: 1,
+            different: u64::from(!right),
+        });
+        if right || self.example.is_some() {
             return Ok(());
         }
-        let offset = case.ip.wrapping_sub(code.first) as usize;
+        let Trial { case, code } = trial;
+        let offset = usize::from(case.ip.wrapping_sub(code.first));
         let here = code.bytes.iter().skip(offset).take(3);
         self.example = Some(Difference {
             case: *case,
@@ -88,34 +95,23 @@ impl Tally {
     }
 
     // Steps both, and compares all that they leave.
-    pub fn compare(&mut self, heap: Global, case: &Case, code: Code) -> Result<(), Failure> {
-        let after = Pair::step(heap, case, code)?;
-        self.cases = self.cases.saturating_add(1);
-        if after.machine != after.model {
-            self.note(heap, case, code, after)?;
-        }
-        Ok(())
+    pub fn compare(&mut self, heap: Global, trial: Trial) -> Result<(), Failure> {
+        let after = Pair::step(heap, trial)?;
+        let right = after.machine == after.model;
+        self.count(heap, trial, after, right)
     }
 
     // The same where no instruction stands: both are to say so, and to leave all as it was.
-    pub fn compare_refused(
-        &mut self,
-        heap: Global,
-        case: &Case,
-        code: Code,
-    ) -> Result<(), Failure> {
+    pub fn compare_refused(&mut self, heap: Global, trial: Trial) -> Result<(), Failure> {
         let expected = Outcome {
-            verdict: Verdict::Refused {
+            verdict: Err(Refused {
                 number: Question::NoInstruction.number(),
-                place: case.ip as usize,
-            },
-            state: MachineSide::new(heap, case)?.state(heap)?,
+                place: usize::from(trial.case.ip),
+            }),
+            state: MachineSide::new(heap, trial.case)?.state(heap)?,
         };
-        let after = Pair::step(heap, case, code)?;
-        self.cases = self.cases.saturating_add(1);
-        if after.machine != expected || after.model != expected {
-            self.note(heap, case, code, after)?;
-        }
-        Ok(())
+        let after = Pair::step(heap, trial)?;
+        let right = after.machine == expected && after.model == expected;
+        self.count(heap, trial, after, right)
     }
 }

@@ -1,18 +1,13 @@
 // Whether a sheet is fitted: one line, `FIT` and the worst cycles, or the refusal.
 #![tactic(auto)]
 
-use fitting::fit;
+use fitting::{Verdict, fit};
 use std::io;
 use std::io::Read;
 
 fn main(rt: HostRuntime) -> io::Result<()> {
     let mut input = Vec::new(rt.alloc());
     rt.stdin().read_to_end(&mut input)?;
-    match fit(input.as_slice()) {
-        Ok(entry) => {
-            let worst = entry.worst;
-            println!(rt; "FIT {worst}")
-        }
-        Err(refusal) => println!(rt; "{refusal}"),
-    }
+    let verdict = Verdict(fit(input.as_slice()));
+    println!(rt; "{verdict}")
 }

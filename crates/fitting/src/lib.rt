@@ -13,37 +13,32 @@ use records::Entry;
 use refusal::Refusal;
 use sheet::examine;
 
+mod verdict;
+
+pub use verdict::Verdict;
+
 // The base page at h'E000, the code area from h'4000 to h'4FFF, limits 64 and 32, and the fill byte 0.
 pub fn settings() -> Settings
     ensures { SetTo 0xE000 0x4000 0x4FFF 64 32 0 result }
 {
-    let Ok(settings) = Settings::new(0xE000, 0x4000, 0x4FFF, 64, 32, 0) else {
-        return unreachable();
-    };
-    settings
+    Settings::new(0xE000, 0x4000, 0x4FFF, 64, 32, 0).unwrap()
 }
 
 // Cells from h'5000 to h'51FF.
 pub fn cells() -> Cells
     ensures { NewCells 0x5000 512 result }
 {
-    let Ok(cells) = Cells::new(0x5000, 512) else {
-        return unreachable();
-    };
-    cells
+    Cells::new(0x5000, 512).unwrap()
 }
 
 // No more bytes of an input are looked at.
 const LONGEST: usize = 5634;
 
+#[tactic(auto, using(std::proofs::lemmas::List::take_min))]
 fn looked_at(input: &[u8]) -> &[u8]
     ensures { result.now ≡ looked_at input.now }
 {
-    if input.len() > LONGEST {
-        &input[0..LONGEST]
-    } else {
-        input
-    }
+    &input[..LONGEST.min(input.len())]
 }
 
 // The code and the sheet. Two bytes say how long the code is; where they are missing, or less code stands there than they
@@ -52,11 +47,10 @@ fn parts(input: &[u8]) -> (&[u8], &[u8])
     ensures code { result.0.now ≡ code_of input.now }
     ensures sheet { result.1.now ≡ sheet_of input.now }
 {
-    if input.len() < 2 {
+    let [high, low, rest @ ..] = input else {
         return (&[], &[]);
-    }
-    let length = 256 * input[0] as usize + input[1] as usize;
-    let rest = &input[2..];
+    };
+    let length = usize::from(u16::from_be_bytes([*high, *low]));
     rest.split_at(length.min(rest.len()))
 }
 

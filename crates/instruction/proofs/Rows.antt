@@ -1,6 +1,6 @@
 -- What holds of every row of the table, by one test that is computed over the whole table.
-use Rattle.std.proofs.Common.{◌≡◌, ℕ, ◌+◌, ◌-◌, ◌*◌, ◌≤◌, Bool, true, false, cond, ◌&&◌, eqb, leb, List, [], ◌∷◌, Some, None, Option, sym, refl, ap, ◌∙◌, subst, ⊎_elim, arith}
-use Rattle.std.proofs.lemmas.Bool.{leb-true, eqb-true, cond-true, cond-false, cases_Bool, and_parts}
+use Rattle.std.proofs.Common.{◌≡◌, ℕ, ◌+◌, ◌-◌, ◌*◌, ◌≤◌, Bool, true, false, cond, ◌&&◌, eqb, leb, List, [], ◌∷◌, Some, None, Option, sym, refl, ap, ◌∙◌, subst, arith, rules}
+use Rattle.std.proofs.lemmas.Bool.{leb-true, eqb-true, and_parts}
 use Rattle.std.specs.List.{AllByRecursion}
 use Rattle.instruction.specs.declared.table.Place.TheVariants.{Absolute, Relative, Indexed}
 use Rattle.instruction.specs.declared.table.Memory.{Memory}
@@ -14,22 +14,14 @@ use Rattle.instruction.specs.declared.decoding.Instruction.{Instruction}
 use Rattle.instruction.specs.Decode.{operand_size, one_byte, two_bytes, operand_of, with_operand, with_family, decoded, Listed}
 use Rattle.instruction.specs.Table.{families, row_of, holds, found}
 
-pub some_same : {A : Type 0} (x y : A) → Some x ≡ Some y → x ≡ y
-some_same x y e = cc
-
-pub no_some : {A : Type 0} (x : A) → Some x ≡ None → ⊥
-no_some x e = let z : ◌≡◌ {A = ℕ} 0 1 = cc in omega arith
-
 -- a family that is found has what all have, and the opcode
 pub found_has : (P : Family → Type 0) (fs : List Family) (opcode : ℕ) (f : Family) → AllByRecursion P fs → found fs opcode ≡ Some f → P f × (holds f opcode ≡ true)
-found_has P [] opcode f all e = absurd (no_some f (sym e))
-found_has P (g ∷ gs) opcode f all e =
-    ⊎_elim
-    (λ on.
-    let same : g ≡ f = some_same g f (sym (cond-true (holds g opcode) (Some g) (found gs opcode) on) ∙ e) in
-    subst (λ (x : Family). P x × (holds x opcode ≡ true)) same (all.0, on))
-    (λ off. found_has P gs opcode f all.1 (sym (cond-false (holds g opcode) (Some g) (found gs opcode) off) ∙ e))
-    (cases_Bool (holds g opcode))
+found_has P [] opcode f all e = cc
+found_has P (g ∷ gs) opcode f all e = go (holds g opcode) refl e (found_has P gs opcode f all.1)
+  where
+    go : (b : Bool) → holds g opcode ≡ b → cond b (Some g) (found gs opcode) ≡ Some f → (found gs opcode ≡ Some f → P f × (holds f opcode ≡ true)) → P f × (holds f opcode ≡ true)
+    go true on s later = let same : g ≡ f = cc in subst (λ (x : Family). P x × (holds x opcode ≡ true)) same (all.0, on)
+    go false off s later = later s
 
 -- the pointer is one of four, and the bytes that the access reads are among those needed
 abbrev pub reaches_enough : Memory → ℕ → ℕ → Bool
@@ -61,10 +53,13 @@ Sound f = (f ≡ row_of f.kind) × (sound f ≡ true)
 
 all_sound : AllByRecursion Sound families
 unfolding families
-all_sound = ((refl, refl), ((refl, refl), ((refl, refl), ((refl, refl), ((refl, refl), ((refl, refl), ((refl, refl), ((refl, refl), ((refl, refl), ((refl, refl), ((refl, refl), ((refl, refl), ((refl, refl), ((refl, refl), ((refl, refl), ((refl, refl), ((refl, refl), ((refl, refl), ((refl, refl), ((refl, refl), ((refl, refl), ((refl, refl), ((refl, refl), ((refl, refl), ((refl, refl), ((refl, refl), ((refl, refl), ((refl, refl), ((refl, refl), ((refl, refl), ((refl, refl), ((refl, refl), ((refl, refl), ((refl, refl), ((refl, refl), ((refl, refl), ((refl, refl), ((refl, refl), ((refl, refl), ((refl, refl), ((refl, refl), ((refl, refl), ((refl, refl), ((refl, refl), ((refl, refl), ((refl, refl), ((refl, refl), ((refl, refl), ((refl, refl), ((refl, refl), ((refl, refl), ((refl, refl), ((refl, refl), ((refl, refl), ((refl, refl), ((refl, refl), ((refl, refl), ((refl, refl), ((refl, refl), ((refl, refl), ((refl, refl), ((refl, refl), ((refl, refl), ((refl, refl), ((refl, refl), ((refl, refl), ((refl, refl), ((refl, refl), ((refl, refl), ((refl, refl), ((refl, refl), ((refl, refl), ((refl, refl), ((refl, refl), ((refl, refl), ((refl, refl), ((refl, refl), tt)))))))))))))))))))))))))))))))))))))))))))))))))))))))))))))))))))))))))))))
+all_sound = search rules
 
 pub found-sound : (opcode : ℕ) (f : Family) → found families opcode ≡ Some f → Sound f × (holds f opcode ≡ true)
 found-sound opcode f e = found_has Sound families opcode f all_sound e
+
+pub found_from : (opcode : ℕ) (f : Family) → found families opcode ≡ Some f → f.first ≤ opcode
+found_from opcode f e = leb-true f.first opcode (and_parts (leb f.first opcode) (leb opcode f.last) (found-sound opcode f e).1).0
 
 -- what the test says of each row
 pub record Rule (f : Family) : Type 0 where
@@ -81,37 +76,38 @@ rule f e =
 -- what is decoded is in the table
 
 one-sized : (after : List ℕ) (x : Operand) → one_byte after ≡ Some x → operand_size x ≡ 2
-one-sized [] x e = absurd (no_some x (sym e))
-one-sized (n ∷ rest) x e = ap operand_size (sym (some_same (Byte n) x e))
+one-sized [] x e = cc
+one-sized (n ∷ rest) x e = let same : x ≡ Byte n = cc in ap operand_size same
 
 two_sized : (after : List ℕ) (x : Operand) → two_bytes after ≡ Some x → operand_size x ≡ 3
-two_sized [] x e = absurd (no_some x (sym e))
-two_sized (high ∷ []) x e = absurd (no_some x (sym e))
-two_sized (high ∷ (low ∷ rest)) x e = ap operand_size (sym (some_same (Word (high * 256 + low)) x e))
+two_sized [] x e = cc
+two_sized (high ∷ []) x e = cc
+two_sized (high ∷ (low ∷ rest)) x e = let same : x ≡ Word (high * 256 + low) = cc in ap operand_size same
 
 sized_as : (size : ℕ) (after : List ℕ) (x : Operand) → operand_of size after ≡ Some x → operand_size x ≡ size
 sized_as size after x = go (eqb size 1) (eqb size 2) (eqb size 3) refl refl refl
   where
     go : (a b c : Bool) → eqb size 1 ≡ a → eqb size 2 ≡ b → eqb size 3 ≡ c
         → cond a (Some Empty) (cond b (one_byte after) (cond c (two_bytes after) None)) ≡ Some x → operand_size x ≡ size
-    go true b c h k l e = ap operand_size (sym (some_same Empty x e)) ∙ sym (eqb-true size 1 h)
+    go true b c h k l e = let same : x ≡ Empty = cc in ap operand_size same ∙ sym (eqb-true size 1 h)
     go false true c h k l e = one-sized after x e ∙ sym (eqb-true size 2 k)
     go false false true h k l e = two_sized after x e ∙ sym (eqb-true size 3 l)
-    go false false false h k l e = absurd (no_some x (sym e))
+    go false false false h k l e = cc
 
 listed_with : (f : Family) (opcode : ℕ) (o : Option Operand) (i : Instruction) → found families opcode ≡ Some f
     → ((x : Operand) → o ≡ Some x → operand_size x ≡ f.size) → with_operand f opcode o ≡ Some i → Listed i
-listed_with f opcode None i k z e = absurd (no_some i (sym e))
+listed_with f opcode None i k z e = cc
 listed_with f opcode (Some x) i k z e =
-    subst (λ (j : Instruction). Listed j) (some_same _ i e) (record { opcode = opcode; family = k; number = refl; sized = z x refl })
+    let same : ◌≡◌ {A = Instruction} (record { family = f; number = opcode - f.first; operand = x }) i = cc in
+    subst (λ (j : Instruction). Listed j) same (record { opcode = opcode; family = k; number = refl; sized = z x refl })
 
 listed-family : (o : Option Family) (opcode : ℕ) (after : List ℕ) (i : Instruction) → found families opcode ≡ o → with_family o opcode after ≡ Some i → Listed i
-listed-family None opcode after i k e = absurd (no_some i (sym e))
+listed-family None opcode after i k e = cc
 listed-family (Some f) opcode after i k e = listed_with f opcode (operand_of f.size after) i k (sized_as f.size after) e
 
-pub listed-decoded : (code : List ℕ) (i : Instruction) → decoded code ≡ Some i → Listed i
-listed-decoded [] i e = absurd (no_some i (sym e))
-listed-decoded (opcode ∷ after) i e = listed-family (found families opcode) opcode after i refl e
+pub listed_decoded : (code : List ℕ) (i : Instruction) → decoded code ≡ Some i → Listed i
+listed_decoded [] i e = cc
+listed_decoded (opcode ∷ after) i e = listed-family (found families opcode) opcode after i refl e
 
 -- what the table says of an instruction that it has
 pub record Rowed (i : Instruction) : Type 0 where

@@ -36,85 +36,20 @@ one kind opcode size cycles needs leaves = record {
 
 -- up to another opcode
 abbrev upto : ℕ → Family → Family
-upto last f = record {
-  kind = f.kind;
-  first = f.first;
-  last = last;
-  size = f.size;
-  cycles = f.cycles;
-  needs = f.needs;
-  leaves = f.leaves;
-  takes = f.takes;
-  gives = f.gives;
-  memory = f.memory;
-  turn = f.turn;
-  transfer = f.transfer;
-}
+upto last f = record f { last = last }
 
 -- the bytes that it needs and leaves on the return stack
 abbrev on_return_stack : ℕ → ℕ → Family → Family
-on_return_stack takes gives f = record {
-  kind = f.kind;
-  first = f.first;
-  last = f.last;
-  size = f.size;
-  cycles = f.cycles;
-  needs = f.needs;
-  leaves = f.leaves;
-  takes = takes;
-  gives = gives;
-  memory = f.memory;
-  turn = f.turn;
-  transfer = f.transfer;
-}
+on_return_stack takes gives f = record f { takes = takes; gives = gives }
 
 abbrev in_memory : Memory → Family → Family
-in_memory memory f = record {
-  kind = f.kind;
-  first = f.first;
-  last = f.last;
-  size = f.size;
-  cycles = f.cycles;
-  needs = f.needs;
-  leaves = f.leaves;
-  takes = f.takes;
-  gives = f.gives;
-  memory = memory;
-  turn = f.turn;
-  transfer = f.transfer;
-}
+in_memory memory f = record f { memory = memory }
 
 abbrev turning : Turn → Family → Family
-turning turn f = record {
-  kind = f.kind;
-  first = f.first;
-  last = f.last;
-  size = f.size;
-  cycles = f.cycles;
-  needs = f.needs;
-  leaves = f.leaves;
-  takes = f.takes;
-  gives = f.gives;
-  memory = f.memory;
-  turn = turn;
-  transfer = f.transfer;
-}
+turning turn f = record f { turn = turn }
 
 abbrev moving : Transfer → Family → Family
-moving transfer f = record {
-  kind = f.kind;
-  first = f.first;
-  last = f.last;
-  size = f.size;
-  cycles = f.cycles;
-  needs = f.needs;
-  leaves = f.leaves;
-  takes = f.takes;
-  gives = f.gives;
-  memory = f.memory;
-  turn = f.turn;
-  transfer = transfer;
-}
+moving transfer f = record f { transfer = transfer }
 
 -- the order in which the operations' opcodes stand
 abbrev rank : Op → ℕ

@@ -2,7 +2,7 @@
 ghost use Rattle.std.specs.Prelude.{◌≡◌};
 ghost use Rattle.instruction.specs.Flow.{ends, jump, flow, own_takes, own_gives};
 
-use crate::decoding::{Instruction, Operand};
+use crate::decoding::Instruction;
 use crate::table::{Distance, Turn};
 
 // To one of two addresses, which may be the same, into a routine, or back to a caller.
@@ -13,21 +13,17 @@ pub enum Flow {
     Returns,
 }
 
-// Where a jump goes, from the address after the instruction.
-pub fn target(distance: Distance, number: u8, operand: Operand, end: u16) -> u16
-    ensures { result ≡ jump distance number operand end }
-{
-    match distance {
-        Distance::Long => {
-            let byte = operand.byte();
-            let sign = if byte < 128 { 0 } else { 0xFF00 };
-            end.wrapping_add(sign + byte as u16)
-        }
-        Distance::Short => end.wrapping_add(number as u16),
-    }
-}
-
 impl Instruction {
+    // Where a jump goes, from the address after the instruction.
+    pub fn jump(&self, distance: Distance, end: u16) -> u16
+        ensures { result ≡ jump distance self.now.number self.now.operand end }
+    {
+        match distance {
+            Distance::Long => end.wrapping_add_signed(i16::from(self.operand.byte().cast_signed())),
+            Distance::Short => end.wrapping_add(u16::from(self.number)),
+        }
+    }
+
     // The address after the instruction, which stands at an address.
     pub fn end(&self, at: u16) -> u16
         ensures { result ≡ ends self.now at }
@@ -43,31 +39,25 @@ impl Instruction {
         match self.family.turn {
             Turn::On => Flow::Goes(end, end),
             Turn::Jump(distance) => {
-                let to = target(distance, self.number, self.operand, end);
+                let to = self.jump(distance, end);
                 Flow::Goes(to, to)
             }
-            Turn::IfZero(distance) => Flow::Goes(
-                target(distance, self.number, self.operand, end),
-                end,
-            ),
-            Turn::IfNonzero(distance) => Flow::Goes(
-                target(distance, self.number, self.operand, end),
-                end,
-            ),
+            Turn::IfZero(distance) | Turn::IfNonzero(distance) => {
+                Flow::Goes(self.jump(distance, end), end)
+            }
             Turn::Call => Flow::Calls(self.operand.word()),
             Turn::Return => Flow::Returns,
         }
     }
 
-    // The bytes that it needs on the return stack, without the address that a return takes.
+    // The bytes that it needs on the return stack, without the address that a return takes. (This and the next differ in the field
+    // read and in the turn tested: one function of both would be handed the two, and be longer than either.)
     pub fn own_takes(&self) -> u8
         ensures { result ≡ own_takes self.now }
     {
         match self.family.turn {
             Turn::Return => self.family.takes.saturating_sub(2),
-            Turn::On | Turn::Jump(_) | Turn::IfZero(_) | Turn::IfNonzero(_) | Turn::Call => self
-                .family
-                .takes,
+            _ => self.family.takes,
         }
     }
 
@@ -77,9 +67,7 @@ impl Instruction {
     {
         match self.family.turn {
             Turn::Call => self.family.gives.saturating_sub(2),
-            Turn::On | Turn::Jump(_) | Turn::IfZero(_) | Turn::IfNonzero(_) | Turn::Return => self
-                .family
-                .gives,
+            _ => self.family.gives,
         }
     }
 }

@@ -22,11 +22,12 @@ pub struct Instruction {
 }
 
 // The family at an opcode's place.
+#[tactic(auto, using(crate::proofs::Lookup::item_nth), unfolding(crate::specs::Table::placed))]
 fn at_place(families: &[Family], places: &[u8], opcode: u8) -> Option<Family>
     ensures { result ≡ placed families.now places.now opcode }
 {
-    let place = *places.get(opcode as usize)?;
-    families.get(place as usize).copied()
+    let place = *places.get(usize::from(opcode))?;
+    families.get(usize::from(place)).copied()
 }
 
 // The family of an opcode.
@@ -37,32 +38,27 @@ pub fn find(opcode: u8) -> Option<Family>
 }
 
 // The instruction with this opcode and these bytes after it.
+#[tactic(auto, using(crate::proofs::Rows::found_from))]
 fn assemble(opcode: u8, after: &[u8]) -> Option<Instruction>
     ensures { result ≡ with_family (found families opcode) opcode after.now }
 {
     let family = find(opcode)?;
     let number = opcode - family.first;
-    match (family.size, after) {
-        (1, _) => Some(Instruction {
-            family,
-            number,
-            operand: Operand::Empty,
-        }),
-        (2, [n, ..]) => Some(Instruction {
-            family,
-            number,
-            operand: Operand::Byte(*n),
-        }),
-        (3, [high, low, ..]) => Some(Instruction {
-            family,
-            number,
-            operand: Operand::Word(*high as u16 * 256 + *low as u16),
-        }),
-        _ => None,
-    }
+    let operand = match (family.size, after) {
+        (1, _) => Operand::Empty,
+        (2, [n, ..]) => Operand::Byte(*n),
+        (3, [high, low, ..]) => Operand::Word(u16::from_be_bytes([*high, *low])),
+        _ => return None,
+    };
+    Some(Instruction {
+        family,
+        number,
+        operand,
+    })
 }
 
-// The instruction at the start of the code, if all its bytes are there.
+// The instruction at the start of the code, if all its bytes are there. The code is taken apart by patterns, as its parts stand:
+// the opcode, the operand, the rest.
 pub fn decode(code: &[u8]) -> Option<Instruction>
     ensures { result ≡ decoded code.now }
 {
@@ -84,13 +80,14 @@ impl Operand {
         }
     }
 
+    // Zero where there is none: a kind that asks has one, and an option would have to be opened at each.
     pub fn byte(self) -> u8
         ensures { result ≡ operand_byte self }
     {
         match self {
             Operand::Empty => 0,
             Operand::Byte(n) => n,
-            Operand::Word(w) => (w % 256) as u8,
+            Operand::Word(w) => w.to_be_bytes()[1],
         }
     }
 
@@ -99,7 +96,7 @@ impl Operand {
     {
         match self {
             Operand::Empty => 0,
-            Operand::Byte(n) => n as u16,
+            Operand::Byte(n) => u16::from(n),
             Operand::Word(w) => w,
         }
     }

@@ -7,7 +7,7 @@ mod decoding;
 mod reach;
 mod table;
 
-pub use control::{Flow, target};
+pub use control::Flow;
 pub use decoding::{Instruction, Operand, decode, find};
 pub use reach::{MemoryOperand, Target};
 pub use table::{Distance, FAMILIES, Family, Kind, Memory, Op, Place, Transfer, Turn};

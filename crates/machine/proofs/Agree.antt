@@ -1,5 +1,5 @@
 -- What the code leans on follows from the questions that an instruction of the table has passed.
-use Rattle.std.proofs.Common.{◌≡◌, ℕ, suc, ◌+◌, ◌-◌, ◌<◌, ◌≤◌, Bool, true, false, cond, leb, length, refl, subst, arith}
+use Rattle.std.proofs.Common.{◌≡◌, ℕ, suc, ◌+◌, ◌-◌, ◌<◌, ◌≤◌, Bool, true, false, cond, leb, length, refl, subst, sym, arith}
 use Rattle.std.proofs.lemmas.Bool.{leb-true, and_parts}
 use Rattle.refusal.specs.Questions.{Verdict, accepted, refused, first_no}
 use Rattle.instruction.specs.declared.table.Place.TheVariants.{Absolute, Relative, Indexed}
@@ -8,6 +8,8 @@ use Rattle.instruction.specs.declared.table.Memory.TheVariants.{Nowhere, Read, W
 use Rattle.instruction.specs.declared.table.Family.{Family}
 use Rattle.instruction.specs.declared.decoding.Operand.{Operand}
 use Rattle.instruction.specs.declared.decoding.Instruction.{Instruction}
+use Rattle.instruction.specs.declared.reach.MemoryOperand.{MemoryOperand}
+use Rattle.instruction.specs.Table.{row_of}
 use Rattle.instruction.specs.Decode.{Listed}
 use Rattle.instruction.specs.Reach.{reached, reach}
 use Rattle.instruction.proofs.Rows.{reaches_enough, rowed}
@@ -18,11 +20,11 @@ use Rattle.machine.specs.Bytes.{bytes}
 use Rattle.machine.specs.State.{view}
 use Rattle.machine.specs.Suits.{Suited, Suits, Reaches}
 use Rattle.machine.specs.Step.{stack_asks}
-use Rattle.machine.proofs.Heaped.{length-heaped}
+use Rattle.machine.proofs.Heaped.{length_heaped}
 
-pub length-bytes : (s : Stack) → length (bytes s) ≡ s.depth
+pub length_bytes : (s : Stack) → length (bytes s) ≡ s.depth
 unfolding bytes
-length-bytes s = length-heaped s.cells s.depth
+length_bytes s = length_heaped s.cells s.depth
 
 -- an accepted question was answered yes
 answered_yes : (b : Bool) (v : Verdict) (n p : ℕ) → accepted ≡ cond b v (refused n p) → (b ≡ true) × (accepted ≡ v)
@@ -44,8 +46,8 @@ passes limits i m e =
     let b = answered_yes (leb i.family.takes y) _ _ _ a.1 in
     let c = answered_yes (leb (x - i.family.needs + i.family.leaves) limits.stack) _ _ _ b.1 in
     let d = answered_yes (leb (y - i.family.takes + i.family.gives) limits.returns) _ _ _ c.1 in
-    let la : x ≡ m.stack.depth = length-bytes m.stack in
-    let lb : y ≡ m.returns.depth = length-bytes m.returns in
+    let la : x ≡ m.stack.depth = length_bytes m.stack in
+    let lb : y ≡ m.returns.depth = length_bytes m.returns in
     let ha : i.family.needs ≤ x = leb-true _ _ a.0 in
     let hb : i.family.takes ≤ y = leb-true _ _ b.0 in
     let hc : x - i.family.needs + i.family.leaves ≤ limits.stack = leb-true _ _ c.0 in
@@ -94,3 +96,14 @@ suits limits i m l p =
     let h0 = p.enough in let h1 = p.enough_returns in let h2 = p.within in let h3 = p.within_returns in
     subst (λ (f : Family). Suited f i.number m.stack.depth m.returns.depth) r.row
     (record { low = r.low; enough = h0; within = omega arith; enough_returns = h1; within_returns = omega arith })
+
+-- the same of an instruction whose questions to the stacks were all answered yes
+
+pub reaches_passed : (limits : Settings) (i : Instruction) (m : Machine) (o : MemoryOperand) → Listed i → accepted ≡ first_no (stack_asks limits i (view m)) → o ≡ reach i → Reaches o m.stack.depth
+reaches_passed limits i m o l e q = subst (λ (x : MemoryOperand). Reaches x m.stack.depth) (sym q) (reaches i m.stack.depth l (passes limits i m e).enough)
+
+pub suits_passed : (limits : Settings) (i : Instruction) (m : Machine) → Listed i → accepted ≡ first_no (stack_asks limits i (view m)) → Suits i.family.kind i.number m.stack.depth m.returns.depth
+suits_passed limits i m l e = suits limits i m l (passes limits i m e)
+
+pub listed_row : (i : Instruction) → Listed i → i.family ≡ row_of i.family.kind
+listed_row i l = (rowed i l).row

@@ -1,5 +1,5 @@
 -- The frame law, a line for each kind, and the depth law, which follows from it.
-use Rattle.std.proofs.Common.{◌≡◌, ℕ, zero, suc, ◌+◌, ◌-◌, ◌*◌, ◌%◌, ◌<◌, ◌≤◌, Bool, true, false, cond, eqb, leb, ◌≢◌, List, [], ◌∷◌, ◌++◌, length, get_or, take, drop, set, replicate, Some, None, Option, sym, refl, ap, ◌∙◌, subst, arith, length-append, length-drop, length-set, take-append-drop, length-take, get_or-set_other, get_or-set_same}
+use Rattle.std.proofs.Common.{◌≡◌, ℕ, zero, suc, ◌+◌, ◌-◌, ◌*◌, ◌%◌, ◌<◌, ◌≤◌, Bool, true, false, cond, eqb, leb, ◌≢◌, List, [], ◌∷◌, ◌++◌, length, get_or, take, drop, set, replicate, Some, None, Option, sym, refl, ap, ◌∙◌, subst, arith, length-append, length-drop, length-set, take-append-drop, length-take, rules, get_or-set_other, get_or-set_same}
 use lib.ListN.{length-replicate}
 use Rattle.std.proofs.lemmas.Bool.{leb-true, eqb-true, eqb-false, and_parts}
 use Rattle.instruction.specs.declared.table.Kind.{Kind}
@@ -111,25 +111,28 @@ simply : (i : Instruction) (s e : State) →
     (e.pointers ≡ pointers_after i.family.transfer i s) × (e.ip ≡ s.ip) × (e.cycles ≡ s.cycles) → Framed i s e
 simply i s e d r a l k = record { stack = d; returns = r; access = a; learned = λ j four. l j; pointers = k.0; ip = k.1; cycles = k.2 }
 
+-- what a kind does to both stacks is one of these after another
+ruleset framing = (rules, arith, as_on, cons_on, rest-on, grow_on, drop-on, set_on, still, offset-covers, indexed_covers, simply)
+
 frame : (k : Kind) (n : ℕ) (x : Operand) (b f : ℕ) (s : State) → n ≤ (row_of k).last - (row_of k).first →
     Framed (record { family = row_of k; number = n; operand = x }) s (effect k n x b f s)
-frame Not n x b f s h = simply _ s _ (λ u o. cons_on 0 _ (rest-on 0 o)) (λ u o. o) (λ k a. tt) (λ k a. still a refl) (refl, refl, refl)
-frame Increment n x b f s h = simply _ s _ (λ u o. cons_on 0 _ (rest-on 0 o)) (λ u o. o) (λ k a. tt) (λ k a. still a refl) (refl, refl, refl)
-frame Decrement n x b f s h = simply _ s _ (λ u o. cons_on 0 _ (rest-on 0 o)) (λ u o. o) (λ k a. tt) (λ k a. still a refl) (refl, refl, refl)
-frame (Binary o) n x b f s h = simply _ s _ (λ u p. cons_on 0 _ (rest-on 0 (rest-on 1 p))) (λ u o. o) (λ k a. tt) (λ k a. still a refl) (refl, refl, refl)
-frame AddCarry n x b f s h = simply _ s _ (λ u o. cons_on 0 _ (rest-on 0 (rest-on 1 o))) (λ u o. o) (λ k a. tt) (λ k a. still a refl) (refl, refl, refl)
-frame (Immediate o) n x b f s h = simply _ s _ (λ u p. cons_on 0 _ (rest-on 0 p)) (λ u o. o) (λ k a. tt) (λ k a. still a refl) (refl, refl, refl)
-frame (BinaryReturn o) n x b f s h = simply _ s _ (λ u p. cons_on 0 _ (rest-on 0 (rest-on 1 p))) (λ u o. o) (λ k a. tt) (λ k a. still a refl) (refl, refl, refl)
-frame PushShort n x b f s h = simply _ s _ (λ u o. cons_on 0 _ o) (λ u o. o) (λ k a. tt) (λ k a. still a refl) (refl, refl, refl)
-frame PushByte n x b f s h = simply _ s _ (λ u o. cons_on 0 _ o) (λ u o. o) (λ k a. tt) (λ k a. still a refl) (refl, refl, refl)
-frame PushWord n x b f s h = simply _ s _ (λ u o. cons_on 1 _ (cons_on 0 _ o)) (λ u o. o) (λ k a. tt) (λ k a. record { pointer = a.pointer; top = omega arith }) (refl, refl, refl)
-frame PushTop n x b f s h = simply _ s _ (λ u o. cons_on 1 _ o) (λ u o. o) (λ k a. tt) (λ k a. still a refl) (refl, refl, refl)
-frame PushNext n x b f s h = simply _ s _ (λ u o. cons_on 2 _ o) (λ u o. o) (λ k a. tt) (λ k a. still a refl) (refl, refl, refl)
+frame Not n x b f s h = search framing
+frame Increment n x b f s h = search framing
+frame Decrement n x b f s h = search framing
+frame (Binary o) n x b f s h = search framing
+frame AddCarry n x b f s h = search framing
+frame (Immediate o) n x b f s h = search framing
+frame (BinaryReturn o) n x b f s h = search framing
+frame PushShort n x b f s h = search framing
+frame PushByte n x b f s h = search framing
+frame PushWord n x b f s h = search framing
+frame PushTop n x b f s h = search framing
+frame PushNext n x b f s h = search framing
 frame (PushDeep m) n x b f s h = simply _ s _ (λ u o. as_on _ _ (omega arith) (cons_on (m + 2) _ o)) (λ u o. o) (λ k a. tt) (λ k a. still a refl) (refl, refl, refl)
-frame (PopDeep m) n x b f s h = simply _ s _ (λ u o. set_on (m + 1) m _ (omega arith) (rest-on (m + 1) (as_on _ _ (omega arith) o))) (λ u o. o) (λ k a. tt) (λ k a. still a refl) (refl, refl, refl)
-frame PushRegister n x b f s h = simply _ s _ (λ u o. cons_on 0 _ o) (λ u o. o) (λ k a. tt) (λ k a. still a refl) (refl, refl, refl)
-frame PopRegister n x b f s h = simply _ s _ (λ u o. rest-on 0 o) (λ u o. o) (λ k a. tt) (λ k a. still a refl) (refl, refl, refl)
-frame PushPointer n x b f s h = simply _ s _ (λ u o. cons_on 1 _ (cons_on 0 _ o)) (λ u o. o) (λ k a. tt) (λ k a. still a refl) (refl, refl, refl)
+frame (PopDeep m) n x b f s h = search framing
+frame PushRegister n x b f s h = search framing
+frame PopRegister n x b f s h = search framing
+frame PushPointer n x b f s h = search framing
 frame PopPointer n x b f s h = record {
   stack = λ u o. rest-on 0 (rest-on 1 o);
   returns = λ u o. o;
@@ -139,28 +142,28 @@ frame PopPointer n x b f s h = record {
   ip = refl;
   cycles = refl;
 }
-frame PushAbsolute n x b f s h = simply _ s _ (λ u o. cons_on 0 _ o) (λ u o. o) (λ k a. (omega arith, omega arith)) (λ k a. still a refl) (refl, refl, refl)
-frame PopAbsolute n x b f s h = simply _ s _ (λ u o. rest-on 0 o) (λ u o. o) (λ k a. (omega arith, omega arith)) (λ k a. still a refl) (refl, refl, refl)
-frame PushRelative n x b f s h = simply _ s _ (λ u o. cons_on 0 _ o) (λ u o. o) (λ k a. offset-covers _ _ _ (a.pointer n (omega arith))) (λ k a. still a refl) (refl, refl, refl)
-frame PopRelative n x b f s h = simply _ s _ (λ u o. rest-on 0 o) (λ u o. o) (λ k a. offset-covers _ _ _ (a.pointer n (omega arith))) (λ k a. still a refl) (refl, refl, refl)
-frame PushIndexed n x b f s h = simply _ s _ (λ u o. cons_on 1 _ (cons_on 0 _ (rest-on 0 o))) (λ u o. o) (λ k a. indexed_covers _ _ (tos s) (a.pointer n (omega arith))) (λ k a. still a refl) (refl, refl, refl)
-frame PopIndexed n x b f s h = simply _ s _ (λ u o. cons_on 0 _ (rest-on 0 (rest-on 1 o))) (λ u o. o) (λ k a. indexed_covers _ _ (tos s) (a.pointer n (omega arith))) (λ k a. still a refl) (refl, refl, refl)
-frame PushReturn n x b f s h = simply _ s _ (λ u o. cons_on 0 _ o) (λ u o. o) (λ k a. tt) (λ k a. still a refl) (refl, refl, refl)
-frame PushPop n x b f s h = simply _ s _ (λ u o. cons_on 0 _ o) (λ u o. rest-on 0 o) (λ k a. tt) (λ k a. still a refl) (refl, refl, refl)
-frame PopPush n x b f s h = simply _ s _ (λ u o. rest-on 0 o) (λ u o. cons_on 0 _ o) (λ k a. tt) (λ k a. still a refl) (refl, refl, refl)
+frame PushAbsolute n x b f s h = search framing
+frame PopAbsolute n x b f s h = search framing
+frame PushRelative n x b f s h = search framing
+frame PopRelative n x b f s h = search framing
+frame PushIndexed n x b f s h = search framing
+frame PopIndexed n x b f s h = search framing
+frame PushReturn n x b f s h = search framing
+frame PushPop n x b f s h = search framing
+frame PopPush n x b f s h = search framing
 frame Exchange n x b f s h = simply _ s _ (λ u o. cons_on 1 _ (cons_on 0 _ (rest-on 0 (rest-on 1 o)))) (λ u o. o) (λ k a. tt) (λ k a. still a refl) (refl, refl, refl)
-frame DropTop n x b f s h = simply _ s _ (λ u o. rest-on 0 o) (λ u o. o) (λ k a. tt) (λ k a. still a refl) (refl, refl, refl)
-frame DropNext n x b f s h = simply _ s _ (λ u o. cons_on 0 _ (rest-on 0 (rest-on 1 o))) (λ u o. o) (λ k a. tt) (λ k a. still a refl) (refl, refl, refl)
-frame (Allocate m) n x b f s h = simply _ s _ (λ u o. grow_on m f o) (λ u o. o) (λ k a. tt) (λ k a. still a refl) (refl, refl, refl)
-frame (Deallocate m) n x b f s h = simply _ s _ (λ u o. drop-on m o) (λ u o. o) (λ k a. tt) (λ k a. still a refl) (refl, refl, refl)
-frame Branch n x b f s h = simply _ s _ (λ u o. o) (λ u o. o) (λ k a. tt) (λ k a. still a refl) (refl, refl, refl)
-frame BranchNonzero n x b f s h = simply _ s _ (λ u o. rest-on 0 o) (λ u o. o) (λ k a. tt) (λ k a. still a refl) (refl, refl, refl)
-frame BranchZero n x b f s h = simply _ s _ (λ u o. rest-on 0 o) (λ u o. o) (λ k a. tt) (λ k a. still a refl) (refl, refl, refl)
-frame ShortBranch n x b f s h = simply _ s _ (λ u o. o) (λ u o. o) (λ k a. tt) (λ k a. still a refl) (refl, refl, refl)
-frame ShortBranchZero n x b f s h = simply _ s _ (λ u o. rest-on 0 o) (λ u o. o) (λ k a. tt) (λ k a. still a refl) (refl, refl, refl)
-frame ShortBranchNonzero n x b f s h = simply _ s _ (λ u o. rest-on 0 o) (λ u o. o) (λ k a. tt) (λ k a. still a refl) (refl, refl, refl)
-frame CallFar n x b f s h = simply _ s _ (λ u o. o) (λ u o. o) (λ k a. tt) (λ k a. still a refl) (refl, refl, refl)
-frame Ret n x b f s h = simply _ s _ (λ u o. o) (λ u o. o) (λ k a. tt) (λ k a. still a refl) (refl, refl, refl)
+frame DropTop n x b f s h = search framing
+frame DropNext n x b f s h = search framing
+frame (Allocate m) n x b f s h = search framing
+frame (Deallocate m) n x b f s h = search framing
+frame Branch n x b f s h = search framing
+frame BranchNonzero n x b f s h = search framing
+frame BranchZero n x b f s h = search framing
+frame ShortBranch n x b f s h = search framing
+frame ShortBranchZero n x b f s h = search framing
+frame ShortBranchNonzero n x b f s h = search framing
+frame CallFar n x b f s h = search framing
+frame Ret n x b f s h = search framing
 
 pub framed : (i : Instruction) (b f : ℕ) (s : State) → Listed i → Framed i s (does i b f s)
 framed i b f s l =

@@ -5,7 +5,6 @@ use Rattle.refusal.specs.Questions.{ask, Verdict, accepted, refused, first_no}
 use Rattle.refusal.proofs.Verdicts.{then, first_no-++}
 use Rattle.board.specs.Meaning.{Meaning}
 use Rattle.instruction.specs.declared.decoding.Instruction.{Instruction}
-use Rattle.instruction.proofs.Rows.{some_same, no_some}
 use Rattle.machine.specs.declared.access.Access.{Access}
 use Rattle.machine.specs.declared.settings.Settings.{Settings}
 use Rattle.machine.specs.State.{State}
@@ -36,12 +35,12 @@ module _ {B : Type 0} (m : Meaning B) (limits : Settings) (i : Instruction) (s :
   -- by what the board answers, and the board after it
 
   no_byte : (t : Bool) (n : ℕ) → None ≡ cond t (Some n) None → t ≡ false
-  no_byte true n e = absurd (no_some n (sym e))
+  no_byte true n e = cc
   no_byte false n e = refl
 
   one_byte : (t : Bool) (n k : ℕ) → Some k ≡ cond t (Some n) None → (t ≡ true) × (k ≡ n)
-  one_byte true n k e = (refl, some_same k n e)
-  one_byte false n k e = absurd (no_some k e)
+  one_byte true n k e = (refl, cc)
+  one_byte false n k e = cc
 
   passed_on : accepted ≡ first_no (stack_asks limits i s) → first_no (step_asks m limits (Some i) s b) ≡ boarded (accepts m (wants i s) b)
   passed_on e = in_turn ∙ ap (λ v. then v (boarded (accepts m (wants i s) b))) (sym e)

@@ -28,23 +28,23 @@ abbrev pub fresh : ℕ → State
 fresh ip = record { stack = []; returns = []; registers = replicate 16 0; pointers = replicate 4 0; carry = false; ip = ip; cycles = 0 }
 
 abbrev pub with_stack : List ℕ → State → State
-with_stack xs s = record { stack = xs; returns = s.returns; registers = s.registers; pointers = s.pointers; carry = s.carry; ip = s.ip; cycles = s.cycles }
+with_stack xs s = record s { stack = xs }
 
 abbrev pub with_returns : List ℕ → State → State
-with_returns xs s = record { stack = s.stack; returns = xs; registers = s.registers; pointers = s.pointers; carry = s.carry; ip = s.ip; cycles = s.cycles }
+with_returns xs s = record s { returns = xs }
 
 abbrev pub with_registers : List ℕ → State → State
-with_registers xs s = record { stack = s.stack; returns = s.returns; registers = xs; pointers = s.pointers; carry = s.carry; ip = s.ip; cycles = s.cycles }
+with_registers xs s = record s { registers = xs }
 
 abbrev pub with_pointers : List ℕ → State → State
-with_pointers xs s = record { stack = s.stack; returns = s.returns; registers = s.registers; pointers = xs; carry = s.carry; ip = s.ip; cycles = s.cycles }
+with_pointers xs s = record s { pointers = xs }
 
 abbrev pub with_carry : Bool → State → State
-with_carry b s = record { stack = s.stack; returns = s.returns; registers = s.registers; pointers = s.pointers; carry = b; ip = s.ip; cycles = s.cycles }
+with_carry b s = record s { carry = b }
 
 -- at another address, with another cycle count
 abbrev pub at : ℕ → ℕ → State → State
-at ip cycles s = record { stack = s.stack; returns = s.returns; registers = s.registers; pointers = s.pointers; carry = s.carry; ip = ip; cycles = cycles }
+at ip cycles s = record s { ip = ip; cycles = cycles }
 
 -- TOS and NEXT
 abbrev pub tos : State → ℕ

@@ -16,7 +16,8 @@ pub enum Access {
 }
 
 impl Access {
-    // Has the board do it. The byte that was read, 0 where none was, or nothing where the board refuses.
+    // Has the board do it. The byte that was read, or nothing where the board refuses. (Zero where none was read: no instruction
+    // without a read looks at it.)
     pub(crate) fn perform<B: Board>(self, board: &mut B) -> Option<u8>
         ensures value { result ≡ (if accepts B.Board.meaning self board.old then Some (answered B.Board.meaning self board.old) else None) }
         ensures after { board.new ≡ (if accepts B.Board.meaning self board.old then changed B.Board.meaning self board.old else board.old) }
@@ -24,10 +25,7 @@ impl Access {
         match self {
             Access::Nothing => Some(0),
             Access::Read(at) => board.read(at).ok(),
-            Access::Write(at, byte) => match board.write(at, byte) {
-                Ok(()) => Some(0),
-                Err(_) => None,
-            },
+            Access::Write(at, byte) => board.write(at, byte).map(|_| 0).ok(),
         }
     }
 }
@@ -40,10 +38,10 @@ impl Machine {
         match target {
             Target::Fixed(at) => at,
             Target::Offset(pointer, offset) => {
-                self.pointers[pointer as usize].wrapping_add(offset as u16)
+                self.pointers[usize::from(pointer)].wrapping_add(u16::from(offset))
             }
             Target::Indexed(pointer) => {
-                self.pointers[pointer as usize].wrapping_add(self.stack.top() as u16)
+                self.pointers[usize::from(pointer)].wrapping_add(u16::from(self.stack.peek(0)))
             }
         }
     }
@@ -54,9 +52,8 @@ impl Machine {
         ensures { result ≡ written target (view self.now) }
     {
         match target {
-            Target::Fixed(_) => self.stack.top(),
-            Target::Offset(_, _) => self.stack.top(),
-            Target::Indexed(_) => self.stack.next(),
+            Target::Fixed(_) | Target::Offset(_, _) => self.stack.peek(0),
+            Target::Indexed(_) => self.stack.peek(1),
         }
     }
 

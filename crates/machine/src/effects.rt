@@ -1,8 +1,9 @@
 // What each kind of instruction does to the stacks, the registers, the pointers and the carry.
-ghost use Rattle.std.specs.Prelude.{◌≡◌, ◌+◌, ◌<◌, ◌≤◌};
-ghost use Rattle.instruction.specs.declared.table.Kind.TheVariants.{Not, Increment, Decrement, AddCarry, Immediate, PushByte, PushTop, PushNext, PushDeep, PopDeep, PushRegister, PopRegister, PushPointer, PopPointer, PushIndexed, PushReturn, PushPop, PopPush, Exchange, DropTop, DropNext, Allocate, Deallocate};
+// How deep the stacks have to be stands at each, as it differs with the kind and holds of no machine at all times.
+ghost use Rattle.std.specs.Prelude.{◌≡◌, ◌+◌, ◌<◌, ◌≤◌, slice_index};
+ghost use Rattle.instruction.specs.declared.table.Kind.TheVariants.{Not, Increment, Decrement, AddCarry, Immediate, PushByte, PopDeep, PushRegister, PopRegister, PushPointer, PopPointer, PushIndexed, PushReturn, PushPop, PopPush, Exchange, DropTop, DropNext, Allocate, Deallocate};
 ghost use Rattle.instruction.specs.declared.decoding.Operand.TheVariants.{Empty, Byte};
-ghost use Rattle.machine.specs.State.{view};
+ghost use Rattle.machine.specs.State.{view, with_carry, pushed};
 ghost use Rattle.machine.specs.Effect.{effect, value, overflow, joined, pushed_word};
 
 use crate::state::Machine;
@@ -14,7 +15,7 @@ fn combine(op: Op, a: u8, b: u8) -> (u8, bool)
     ensures carry { result.1 ≡ overflow op a b }
 {
     match op {
-        Op::Add => (a.wrapping_add(b), a as u16 + b as u16 >= 256),
+        Op::Add => a.overflowing_add(b),
         Op::And => (a & b, false),
         Op::Or => (a | b, false),
         Op::Xor => (a ^ b, false),
@@ -22,13 +23,23 @@ fn combine(op: Op, a: u8, b: u8) -> (u8, bool)
 }
 
 impl Machine {
+    // Leaves what an operation gives: a byte on the data stack, and the carry flag. (That the return stack stays is said where a
+    // return may follow, which pops from it.)
+    fn put(&mut self, given: (u8, bool))
+        requires { self.old.stack.depth < 255 }
+        ensures after { view self.new ≡ with_carry given.1 (pushed given.0 (view self.old)) }
+        ensures same { self.new.returns ≡ self.old.returns }
+    {
+        self.stack.push(given.0);
+        self.carry = given.1;
+    }
+
     pub(crate) fn not(&mut self)
         requires { 0 < self.old.stack.depth }
         ensures { view self.new ≡ effect Not 0 Empty 0 0 (view self.old) }
     {
         let a = self.stack.pop();
-        self.stack.push(255 - a);
-        self.carry = false;
+        self.put((!a, false));
     }
 
     pub(crate) fn increment(&mut self)
@@ -36,8 +47,7 @@ impl Machine {
         ensures { view self.new ≡ effect Increment 0 Empty 0 0 (view self.old) }
     {
         let a = self.stack.pop();
-        self.stack.push(a.wrapping_add(1));
-        self.carry = a == 255;
+        self.put((a.wrapping_add(1), a == 255));
     }
 
     pub(crate) fn decrement(&mut self)
@@ -45,8 +55,7 @@ impl Machine {
         ensures { view self.new ≡ effect Decrement 0 Empty 0 0 (view self.old) }
     {
         let a = self.stack.pop();
-        self.stack.push(a.wrapping_add(255));
-        self.carry = a == 0;
+        self.put((a.wrapping_sub(1), a == 0));
     }
 
     // Makes one byte of TOS and NEXT.
@@ -57,9 +66,7 @@ impl Machine {
     {
         let a = self.stack.pop();
         let b = self.stack.pop();
-        let (value, carry) = combine(op, a, b);
-        self.stack.push(value);
-        self.carry = carry;
+        self.put(combine(op, a, b));
     }
 
     pub(crate) fn join_byte(&mut self, op: Op, byte: u8)
@@ -67,9 +74,7 @@ impl Machine {
         ensures { view self.new ≡ effect (Immediate op) 0 (Byte byte) 0 0 (view self.old) }
     {
         let a = self.stack.pop();
-        let (value, carry) = combine(op, a, byte);
-        self.stack.push(value);
-        self.carry = carry;
+        self.put(combine(op, a, byte));
     }
 
     pub(crate) fn add_carry(&mut self)
@@ -78,9 +83,9 @@ impl Machine {
     {
         let a = self.stack.pop();
         let b = self.stack.pop();
-        let sum = a as u16 + b as u16 + self.carry as u16;
-        self.stack.push((sum % 256) as u8);
-        self.carry = sum >= 256;
+        let sum = u16::from(a) + u16::from(b) + u16::from(self.carry);
+        let [carry, low] = sum.to_be_bytes();
+        self.put((low, carry != 0));
     }
 
     pub(crate) fn push(&mut self, byte: u8)
@@ -94,31 +99,15 @@ impl Machine {
         requires { self.old.stack.depth < 254 }
         ensures { view self.new ≡ pushed_word word (view self.old) }
     {
-        self.stack.push((word / 256) as u8);
-        self.stack.push((word % 256) as u8);
+        self.stack.push_word(word);
     }
 
-    pub(crate) fn push_top(&mut self)
-        requires { (0 < self.old.stack.depth) × (self.old.stack.depth < 255) }
-        ensures { view self.new ≡ effect PushTop 0 Empty 0 0 (view self.old) }
+    // A copy of the byte k under TOS.
+    pub(crate) fn push_copy(&mut self, k: usize)
+        requires { (k < self.old.stack.depth) × (self.old.stack.depth < 255) }
+        ensures { view self.new ≡ pushed (slice_index (view self.old).stack k) (view self.old) }
     {
-        let byte = self.stack.top();
-        self.stack.push(byte);
-    }
-
-    pub(crate) fn push_next(&mut self)
-        requires { (1 < self.old.stack.depth) × (self.old.stack.depth < 255) }
-        ensures { view self.new ≡ effect PushNext 0 Empty 0 0 (view self.old) }
-    {
-        let byte = self.stack.next();
-        self.stack.push(byte);
-    }
-
-    pub(crate) fn push_deep(&mut self, k: u8)
-        requires { (k + 1 < self.old.stack.depth) × (self.old.stack.depth < 255) }
-        ensures { view self.new ≡ effect (PushDeep k) 0 Empty 0 0 (view self.old) }
-    {
-        let byte = self.stack.peek(k as usize + 1);
+        let byte = self.stack.peek(k);
         self.stack.push(byte);
     }
 
@@ -127,40 +116,35 @@ impl Machine {
         ensures { view self.new ≡ effect (PopDeep k) 0 Empty 0 0 (view self.old) }
     {
         let byte = self.stack.pop();
-        self.stack.poke(k as usize, byte);
+        self.stack.poke(usize::from(k), byte);
     }
 
     pub(crate) fn push_register(&mut self, register: u8)
         requires { (register < 16) × (self.old.stack.depth < 255) }
         ensures { view self.new ≡ effect PushRegister register Empty 0 0 (view self.old) }
     {
-        let byte = self.registers[register as usize];
-        self.stack.push(byte);
+        self.stack.push(self.registers[usize::from(register)]);
     }
 
     pub(crate) fn pop_register(&mut self, register: u8)
         requires { (register < 16) × (0 < self.old.stack.depth) }
         ensures { view self.new ≡ effect PopRegister register Empty 0 0 (view self.old) }
     {
-        let byte = self.stack.pop();
-        self.registers[register as usize] = byte;
+        self.registers[usize::from(register)] = self.stack.pop();
     }
 
     pub(crate) fn push_pointer(&mut self, pointer: u8)
         requires { (pointer < 4) × (self.old.stack.depth < 254) }
         ensures { view self.new ≡ effect PushPointer pointer Empty 0 0 (view self.old) }
     {
-        let word = self.pointers[pointer as usize];
-        self.push_word(word);
+        self.stack.push_word(self.pointers[usize::from(pointer)]);
     }
 
     pub(crate) fn pop_pointer(&mut self, pointer: u8)
         requires { (pointer < 4) × (1 < self.old.stack.depth) }
         ensures { view self.new ≡ effect PopPointer pointer Empty 0 0 (view self.old) }
     {
-        let low = self.stack.pop();
-        let high = self.stack.pop();
-        self.pointers[pointer as usize] = high as u16 * 256 + low as u16;
+        self.pointers[usize::from(pointer)] = self.stack.pop_word();
     }
 
     // A byte under TOS.
@@ -177,24 +161,22 @@ impl Machine {
         requires { (0 < self.old.returns.depth) × (self.old.stack.depth < 255) }
         ensures { view self.new ≡ effect PushReturn 0 Empty 0 0 (view self.old) }
     {
-        let byte = self.returns.top();
-        self.stack.push(byte);
+        self.stack.push(self.returns.peek(0));
     }
 
+    // This and the next are one line each: one function of both, over two stacks, would have to say of each what the other loses.
     pub(crate) fn push_pop(&mut self)
         requires { (0 < self.old.returns.depth) × (self.old.stack.depth < 255) }
         ensures { view self.new ≡ effect PushPop 0 Empty 0 0 (view self.old) }
     {
-        let byte = self.returns.pop();
-        self.stack.push(byte);
+        self.stack.push(self.returns.pop());
     }
 
     pub(crate) fn pop_push(&mut self)
         requires { (0 < self.old.stack.depth) × (self.old.returns.depth < 255) }
         ensures { view self.new ≡ effect PopPush 0 Empty 0 0 (view self.old) }
     {
-        let byte = self.stack.pop();
-        self.returns.push(byte);
+        self.returns.push(self.stack.pop());
     }
 
     pub(crate) fn exchange(&mut self)
@@ -227,7 +209,7 @@ impl Machine {
         requires { self.old.stack.depth + k ≤ 255 }
         ensures { view self.new ≡ effect (Allocate k) 0 Empty 0 fill (view self.old) }
     {
-        self.stack.grow(k as usize, fill);
+        self.stack.grow(usize::from(k), fill);
     }
 
     pub(crate) fn deallocate(&mut self, k: u8)
@@ -235,6 +217,6 @@ impl Machine {
         ensures after { view self.new ≡ effect (Deallocate k) 0 Empty 0 0 (view self.old) }
         ensures same { self.new.returns ≡ self.old.returns }
     {
-        self.stack.cut(k as usize);
+        self.stack.cut(usize::from(k));
     }
 }

@@ -3,6 +3,7 @@
 
 mod access;
 mod apply;
+mod code;
 mod effects;
 mod laws;
 mod settings;
@@ -11,8 +12,8 @@ mod state;
 mod step;
 
 pub use access::Access;
+pub use code::Code;
 pub use laws::{depth_law, frame_law};
 pub use settings::Settings;
 pub use stack::Stack;
 pub use state::Machine;
-pub use step::fetch;

@@ -5,44 +5,54 @@ ghost use Rattle.instruction.specs.Table.{row_of};
 ghost use Rattle.instruction.specs.Decode.{Listed};
 ghost use Rattle.machine.specs.State.{view};
 ghost use Rattle.machine.specs.Suits.{Suits};
-ghost use Rattle.machine.specs.Step.{fetched, stack_asks, done, after, stepped};
+ghost use Rattle.machine.specs.Step.{stack_asks, done, after, stepped};
 
+use crate::code::Code;
 use crate::settings::Settings;
 use crate::state::Machine;
 use board::Board;
-use instruction::{Instruction, decode};
+use instruction::{Family, Instruction};
 use refusal::{Question, Refusal, ask};
 
-// The instruction at an address, in a code that begins at its first address.
-pub fn fetch(code: &[u8], first: u16, ip: u16) -> Option<Instruction>
-    ensures { result ≡ fetched code.now first ip }
-{
-    let offset = ip.wrapping_sub(first) as usize;
-    if offset > code.len() {
-        return None;
-    }
-    decode(&code[offset..])
-}
-
 impl Machine {
-    // Asks of the stacks what the instruction needs and leaves.
+    // A refusal at the instruction's address.
+    fn refusal(&self, question: Question) -> Refusal
+        ensures { result ≡ record { question = question; place = self.now.ip } }
+    {
+        Refusal {
+            question,
+            place: usize::from(self.ip),
+        }
+    }
+
+    // Asks of the stacks what the instruction needs and leaves. (The order of the questions goes from one stack to the other, so no
+    // function of one stack could ask its two.)
     fn ready(&self, settings: &Settings, instruction: &Instruction) -> Result<(), Refusal>
         ensures { verdict_of result ≡ first_no (stack_asks settings.now instruction.now (view self.now)) }
     {
-        let place = self.ip as usize;
+        let Family {
+            needs,
+            leaves,
+            takes,
+            gives,
+            ..
+        } = instruction.family;
+        let place = usize::from(self.ip);
         let depth = self.stack.depth();
-        let needs = instruction.family.needs as usize;
-        ask(Question::DataShort, place, needs <= depth)?;
+        ask(Question::DataShort, place, usize::from(needs) <= depth)?;
         let returns = self.returns.depth();
-        let takes = instruction.family.takes as usize;
-        ask(Question::ReturnShort, place, takes <= returns)?;
-        let deeper = depth - needs + instruction.family.leaves as usize;
-        ask(Question::DataFull, place, deeper <= settings.stack as usize)?;
-        let deeper = returns - takes + instruction.family.gives as usize;
+        ask(Question::ReturnShort, place, usize::from(takes) <= returns)?;
+        let depth = depth - usize::from(needs) + usize::from(leaves);
+        ask(
+            Question::DataFull,
+            place,
+            depth <= usize::from(settings.stack),
+        )?;
+        let returns = returns - usize::from(takes) + usize::from(gives);
         ask(
             Question::ReturnFull,
             place,
-            deeper <= settings.returns as usize,
+            returns <= usize::from(settings.returns),
         )
     }
 
@@ -52,20 +62,13 @@ impl Machine {
         ensures { view self.new ≡ done instruction.now byte fill (view self.old) }
     {
         let end = instruction.end(self.ip);
-        let kind = instruction.family.kind;
-        let cycles = instruction.family.cycles as u32;
-        self.ip = self.apply(
-            kind,
-            instruction.number,
-            instruction.operand,
-            end,
-            byte,
-            fill,
-        );
+        let cycles = u32::from(instruction.family.cycles);
+        self.ip = self.apply(instruction, end, byte, fill);
         self.cycles = self.cycles.wrapping_add(cycles);
     }
 
     // Asks the questions of an instruction that stands there, and does it.
+    #[tactic(auto, using(crate::proofs::Agree::reaches_passed, crate::proofs::Agree::suits_passed, crate::proofs::Agree::listed_row, crate::proofs::Steps::blocked, crate::proofs::Steps::denied, crate::proofs::Steps::performed))]
     fn attempt<B: Board>(
         &mut self,
         settings: &Settings,
@@ -79,34 +82,28 @@ impl Machine {
     {
         self.ready(settings, instruction)?;
         let access = self.access(instruction.memory());
-        let Some(byte) = access.perform(board) else {
-            return Err(Refusal {
-                question: Question::AccessDenied,
-                place: self.ip as usize,
-            });
-        };
+        let byte = access
+            .perform(board)
+            .ok_or(self.refusal(Question::AccessDenied))?;
         self.execute(instruction, byte, settings.fill);
         Ok(())
     }
 
-    // One instruction of a code that begins at its first address. A refusal leaves the machine and the board as they were.
+    // One instruction of a code. A refusal leaves the machine and the board as they were.
+    #[tactic(auto, using(instruction::proofs::Rows::listed_decoded), unfolding(crate::specs::Step::stepped, crate::specs::Step::after))]
     pub fn step<B: Board>(
         &mut self,
         settings: &Settings,
-        code: &[u8],
-        first: u16,
+        code: Code<'_>,
         board: &mut B,
     ) -> Result<(), Refusal>
-        ensures verdict { verdict_of result ≡ (stepped B.Board.meaning settings.now code.now first (view self.old) board.old).verdict }
-        ensures machine { view self.new ≡ (stepped B.Board.meaning settings.now code.now first (view self.old) board.old).machine }
-        ensures board { board.new ≡ (stepped B.Board.meaning settings.now code.now first (view self.old) board.old).board }
+        ensures verdict { verdict_of result ≡ (stepped B.Board.meaning settings.now code.entry.bytes.now code.entry.first (view self.old) board.old).verdict }
+        ensures machine { view self.new ≡ (stepped B.Board.meaning settings.now code.entry.bytes.now code.entry.first (view self.old) board.old).machine }
+        ensures board { board.new ≡ (stepped B.Board.meaning settings.now code.entry.bytes.now code.entry.first (view self.old) board.old).board }
     {
-        match fetch(code, first, self.ip) {
-            Some(instruction) => self.attempt(settings, &instruction, board),
-            None => Err(Refusal {
-                question: Question::NoInstruction,
-                place: self.ip as usize,
-            }),
-        }
+        let instruction = code
+            .fetch(self.ip)
+            .ok_or(self.refusal(Question::NoInstruction))?;
+        self.attempt(settings, &instruction, board)
     }
 }

@@ -1,12 +1,12 @@
 -- One turn along a chain, and what an acceptance says of a whole chain.
-use Rattle.std.proofs.Common.{◌≡◌, ℕ, zero, suc, ◌+◌, ◌-◌, ◌≤◌, Bool, true, false, cond, ltb, List, [], ◌∷◌, Some, Option, sym, refl, ap, ◌∙◌, subst, arith}
+use Rattle.std.proofs.Common.{◌≡◌, ℕ, zero, suc, ◌+◌, ◌-◌, ◌<◌, ◌≤◌, Bool, true, false, cond, ltb, List, [], ◌∷◌, length, Some, Option, sym, refl, ap, ◌∙◌, arith}
 use Rattle.std.proofs.lemmas.Bool.{ne_eqb, cond-true}
+use Rattle.std.specs.List.{AllByRecursion}
 use Rattle.refusal.specs.Questions.{Asked, Verdict, accepted, refused, first_no}
 use Rattle.refusal.proofs.Verdicts.{then, first_no-++}
 use Rattle.records.specs.declared.chain.Link.{Link}
 use Rattle.records.specs.Lists.{each}
-use Rattle.records.specs.Reader.{low, Rising}
-use Rattle.records.specs.Records.{record_count, record_at, next_of, links, records, along}
+use Rattle.records.specs.Records.{record_count, record_at, next_of, links, along}
 
 -- verdicts that accept
 
@@ -65,11 +65,26 @@ links-more sheet most holder index some = rw (ne_eqb index 0 some)
 pub links_stop : (sheet : List ℕ) (most holder index : ℕ) → index ≡ 0 → links sheet most holder index ≡ []
 links_stop sheet most holder index e = rw (e, links_end sheet most holder)
 
-pub links-next : (sheet : List ℕ) (most holder index after : ℕ) → (most ≡ 0 → ⊥) → (index ≡ 0 → ⊥) → after ≡ next_of (record_at sheet index)
+pub links_turn : (sheet : List ℕ) (most holder index after : ℕ) → (most ≡ 0 → ⊥) → (index ≡ 0 → ⊥) → after ≡ next_of (record_at sheet index)
     → links sheet most holder index ≡ record { holder = holder; index = index } ∷ links sheet (most - 1) index after
-links-next sheet most holder index after more some e =
+links_turn sheet most holder index after more some e =
     let f : most ≡ suc (most - 1) = omega arith in
     rw e (ap (λ (m : ℕ). links sheet m holder index) f ∙ links-more sheet (most - 1) holder index some)
+
+pub length_links : (sheet : List ℕ) (most holder index : ℕ) → length (links sheet most holder index) ≤ most
+unfolding links
+length_links sheet zero holder index = omega arith
+length_links sheet (suc most) holder zero = omega arith
+length_links sheet (suc most) holder (suc index) =
+    rw (links-more sheet most holder (suc index) (λ e. omega arith)) (omega (arith, length_links sheet most (suc index) (next_of (record_at sheet (suc index)))))
+
+-- no link of a chain is the head's
+pub links_past_head : (sheet : List ℕ) (most holder index : ℕ) → AllByRecursion (λ l. 0 < l.index) (links sheet most holder index)
+unfolding links
+links_past_head sheet zero holder index = tt
+links_past_head sheet (suc most) holder zero = tt
+links_past_head sheet (suc most) holder (suc index) =
+    rw (links-more sheet most holder (suc index) (λ e. omega arith)) (omega arith, links_past_head sheet most (suc index) (next_of (record_at sheet (suc index))))
 
 -- one turn of questions along a chain
 
@@ -93,28 +108,23 @@ module _ {R : Type 0} (number : ℕ) (read : List ℕ → R) (asks : ℕ → ℕ
   within : (l : Link) → accepted ≡ cond (ltb l.index (record_count sheet)) accepted (refused number l.holder) → ltb l.index (record_count sheet) ≡ true
   within l e = (yes_then (ltb l.index (record_count sheet)) accepted number l.holder e).0
 
-  pub along_no : (nth : ℕ) (before : Option R) (ls rest : List Link) (l : Link) (r : R) (n p : ℕ) → ls ≡ l ∷ rest → accepted ≡ cond (ltb l.index (record_count sheet)) accepted (refused number l.holder)
-      → r ≡ read (record_at sheet l.index) → refused n p ≡ first_no (asks nth l.index before r) → first_no (along number read asks sheet nth before ls) ≡ refused n p
-  along_no nth before ls rest l r n p e here f stop =
-      along_turn nth before ls rest l r e f ∙ cond-true (ltb l.index (record_count sheet)) _ _ (within l here) ∙ ap (λ (v : Verdict). then v (first_no (along number read asks sheet (nth + 1) (Some r) rest))) (sym stop)
+  pub along_no : (nth j : ℕ) (before : Option R) (ls rest : List Link) (l : Link) (r : R) (n p : ℕ) → ls ≡ l ∷ rest → j ≡ nth
+      → accepted ≡ cond (ltb l.index (record_count sheet)) accepted (refused number l.holder)
+      → r ≡ read (record_at sheet l.index) → refused n p ≡ first_no (asks j l.index before r) → first_no (along number read asks sheet nth before ls) ≡ refused n p
+  along_no nth j before ls rest l r n p e at here f stop =
+      along_turn nth before ls rest l r e f ∙ cond-true (ltb l.index (record_count sheet)) _ _ (within l here)
+      ∙ ap (λ (v : Verdict). then v (first_no (along number read asks sheet (nth + 1) (Some r) rest))) (sym (stop ∙ ap (λ k. first_no (asks k l.index before r)) at))
 
-  pub along_yes : (nth : ℕ) (before : Option R) (ls rest : List Link) (l : Link) (r : R) → ls ≡ l ∷ rest → accepted ≡ cond (ltb l.index (record_count sheet)) accepted (refused number l.holder)
-      → r ≡ read (record_at sheet l.index) → accepted ≡ first_no (asks nth l.index before r)
-      → first_no (along number read asks sheet nth before ls) ≡ first_no (along number read asks sheet (nth + 1) (Some r) rest)
-  along_yes nth before ls rest l r e here f pass =
-      along_turn nth before ls rest l r e f ∙ cond-true (ltb l.index (record_count sheet)) _ _ (within l here) ∙ ap (λ (v : Verdict). then v (first_no (along number read asks sheet (nth + 1) (Some r) rest))) (sym pass)
+  pub along_yes : (nth j next : ℕ) (before : Option R) (ls rest : List Link) (l : Link) (r : R) → ls ≡ l ∷ rest → j ≡ nth → next ≡ nth + 1
+      → accepted ≡ cond (ltb l.index (record_count sheet)) accepted (refused number l.holder)
+      → r ≡ read (record_at sheet l.index) → accepted ≡ first_no (asks j l.index before r)
+      → first_no (along number read asks sheet nth before ls) ≡ first_no (along number read asks sheet next (Some r) rest)
+  along_yes nth j next before ls rest l r e at on here f pass =
+      along_turn nth before ls rest l r e f ∙ cond-true (ltb l.index (record_count sheet)) _ _ (within l here)
+      ∙ ap (λ (v : Verdict). then v (first_no (along number read asks sheet (nth + 1) (Some r) rest))) (sym (pass ∙ ap (λ k. first_no (asks k l.index before r)) at))
+      ∙ ap (λ k. first_no (along number read asks sheet k (Some r) rest)) (sym on)
 
   -- along a chain that was accepted, the record at hand was asked its questions, and then the rest
   pub along-passed : (nth : ℕ) (before : Option R) (ls : List Link) (l : Link) → accepted ≡ first_no (along number read asks sheet nth before (l ∷ ls))
       → accepted ≡ then (first_no (asks nth l.index before (read (record_at sheet l.index)))) (first_no (along number read asks sheet (nth + 1) (Some (read (record_at sheet l.index))) ls))
   along-passed nth before ls l pass = (yes_then (ltb l.index (record_count sheet)) _ number l.holder (pass ∙ along_turn nth before (l ∷ ls) ls l (read (record_at sheet l.index)) refl refl)).1
-
--- one more record whose key is past the one before
-module _ {R : Type 0} (key : R → ℕ) (read : List ℕ → R) (sheet : List ℕ) where
-  pub rising_turn : (before : Option R) (ls rest : List Link) (l : Link) (r : R) → ls ≡ l ∷ rest → r ≡ read (record_at sheet l.index)
-      → low key before ≤ key r → Rising key (Some r) (records read sheet rest) → Rising key before (records read sheet ls)
-  rising_turn before ls rest l r e f h more =
-      subst (λ (z : List Link). Rising key before (records read sheet z)) (sym e) (subst (λ (z : R). (low key before ≤ key z) × Rising key (Some z) (records read sheet rest)) f (h, more))
-
-  pub rising_end : (before : Option R) (ls : List Link) → ls ≡ [] → Rising key before (records read sheet ls)
-  rising_end before ls e = subst (λ (z : List Link). Rising key before (records read sheet z)) (sym e) tt

@@ -1,8 +1,7 @@
 -- What a sheet is judged against: settings, what the board may do, the fitted routines, and the routine that it describes.
-use Rattle.std.specs.Prelude.{ℕ, Bool, cond, List, ◌==◌}
+use Rattle.std.specs.Prelude.{Bool, List, unwrap_or}
 use Rattle.board.specs.Meaning.{Meaning, spans}
-use Rattle.board.specs.declared.Right.{Right}
-use Rattle.board.specs.declared.Right.TheVariants.{Read, Write, Both}
+use Rattle.board.specs.declared.Right.TheVariants.{Both}
 use Rattle.machine.specs.declared.settings.Settings.{Settings}
 use Rattle.records.specs.declared.window.Window.{Window}
 use Rattle.records.specs.declared.scene.Scene.{Scene}
@@ -15,12 +14,9 @@ pub record Ground : Type 0 where
   pub fitted : List Digest
   pub routine : Routine
 
--- the right of a window as a number: 1 to read, 2 to write, 3 both
-abbrev pub right_of : ℕ → Right
-right_of n = cond (n == 1) Read (cond (n == 2) Write Both)
-
+-- the board has the window's right at each of its addresses; where the window names no right, both
 abbrev pub may : {B : Type 0} → Meaning B → B → Window → Bool
-may m board w = spans m board (right_of w.right) w.first w.last
+may m board w = spans m board (unwrap_or w.right Both) w.first w.last
 
 abbrev pub ground : {B : Type 0} → Meaning B → Scene B → Ground
 ground m s = record {

@@ -1,11 +1,11 @@
 -- Tests over lists, and questions asked of each element.
-use Rattle.std.specs.Prelude.{Bool, true, false, ◌||◌, List, [], ◌∷◌, ◌++◌}
+use Rattle.std.specs.Prelude.{Bool, true, false, List, [], ◌∷◌, ◌++◌}
+use Rattle.std.specs.List.{list_any}
 use Rattle.refusal.specs.Questions.{Asked}
 
 -- some element passes a test; `list_all` of the standard library says it of each
 abbrev pub any_pass : {P : Type 0} → (P → Bool) → List P → Bool
-any_pass test [] = false
-any_pass test (p ∷ ps) = test p || any_pass test ps
+any_pass = list_any
 
 abbrev pub implies : Bool → Bool → Bool
 implies true b = b

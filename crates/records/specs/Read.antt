@@ -1,5 +1,7 @@
 -- The head, a window and a row, as they stand in a record.
-use Rattle.std.specs.Prelude.{ℕ, ◌+◌, ◌*◌, ◌/◌, ◌%◌, ◌^◌, cond, List, Some, None, Option, ◌==◌, slice_index}
+use Rattle.std.specs.Prelude.{ℕ, ◌+◌, ◌*◌, ◌/◌, ◌%◌, ◌^◌, cond, List, [], ◌∷◌, map, Some, None, Option, ◌==◌, slice_index}
+use Rattle.board.specs.declared.Right.{Right}
+use Rattle.board.specs.declared.Right.TheVariants.{Read, Write, Both}
 use Rattle.records.specs.declared.head.Head.{Head}
 use Rattle.records.specs.declared.window.Window.{Window}
 use Rattle.records.specs.declared.row.Row.{Row}
@@ -18,8 +20,12 @@ read_head r = record {
   windows = slice_index r 13;
 }
 
+-- the right that a number names: 1 to read, 2 to write, 3 both
+abbrev pub right_of : ℕ → Option Right
+right_of n = cond (n == 1) (Some Read) (cond (n == 2) (Some Write) (cond (n == 3) (Some Both) None))
+
 abbrev pub read_window : List ℕ → Window
-read_window r = record { first = word r 0; last = word r 2; right = slice_index r 4 }
+read_window r = record { first = word r 0; last = word r 2; right = right_of (slice_index r 4) }
 
 -- the value of a pointer whose bit is set in the marks; the value of another is not looked at
 abbrev pub marked : ℕ → ℕ → ℕ → Option ℕ
@@ -35,5 +41,5 @@ read_row r = record {
   returns = slice_index r 3;
   cycles = long r 4;
   marks = slice_index r 8;
-  pointers = record { p0 = claim_at r 0; p1 = claim_at r 1; p2 = claim_at r 2; p3 = claim_at r 3 };
+  pointers = map (claim_at r) (0 ∷ (1 ∷ (2 ∷ (3 ∷ []))));
 }

@@ -6,7 +6,7 @@ use Rattle.records.specs.Records.{links}
 
 -- the links that are left
 abbrev pub ahead : Chain → List Link
-ahead c = links c.sheet.now c.left c.holder c.index
+ahead c = links c.sheet.now c.left c.next.holder c.next.index
 
 module _ {R : Type 0} (key : R → ℕ) where
   -- the least key that may come after a record

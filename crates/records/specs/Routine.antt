@@ -1,5 +1,5 @@
 -- A routine: a code with all that its sheet claims. A digest is what the sheets of others may know of it.
-use Rattle.std.specs.Prelude.{ℕ, ◌+◌, List, [], ◌∷◌, Some, None, Option}
+use Rattle.std.specs.Prelude.{ℕ, ◌+◌, List, [], ◌∷◌, map, Some, None, Option}
 use Rattle.std.proofs.Math.ListN as lists
 use Rattle.instruction.specs.declared.decoding.Instruction.{Instruction}
 use Rattle.instruction.specs.Decode.{decoded, operand_size}
@@ -87,8 +87,7 @@ digest_of e = record {
 }
 
 abbrev pub digests_of : List Entry → List Digest
-digests_of [] = []
-digests_of (e ∷ es) = digest_of e ∷ digests_of es
+digests_of = map digest_of
 
 -- the instruction at a row
 abbrev pub instruction_at : Routine → Row → Option Instruction

@@ -1,5 +1,5 @@
 -- What is asked of each window.
-use Rattle.std.specs.Prelude.{ℕ, ◌+◌, Bool, true, ◌&&◌, ◌||◌, List, [], ◌∷◌, Some, None, Option, nat_le, nat_lt}
+use Rattle.std.specs.Prelude.{ℕ, ◌+◌, Bool, true, ◌&&◌, ◌||◌, List, [], ◌∷◌, is_some, Some, None, Option, nat_le, nat_lt}
 use Rattle.refusal.specs.Questions.{Asked, ask}
 use Rattle.machine.specs.declared.settings.Settings.{Settings}
 use Rattle.records.specs.declared.window.Window.{Window}
@@ -10,8 +10,9 @@ abbrev pub above : Option Window → Window → Bool
 above None w = true
 above (Some b) w = nat_lt b.last w.first
 
+-- the first address is not past the last, the record names a right, and the window is above the one before
 unfoldable pub shaped : Option Window → Window → Bool
-shaped before w = nat_le w.first w.last && (nat_le 1 w.right && (nat_le w.right 3 && above before w))
+shaped before w = nat_le w.first w.last && (is_some w.right && above before w)
 
 -- clear of the addresses from a first to a last
 abbrev pub clear_of : ℕ → ℕ → Window → Bool

@@ -1,5 +1,5 @@
 // The head, and what is asked of it.
-ghost use Rattle.std.specs.Prelude.{◌≡◌, ◌≤◌, length};
+ghost use Rattle.std.specs.Prelude.{◌≡◌, ◌+◌, ◌≤◌, length};
 ghost use Rattle.std.specs.List.{list_all};
 ghost use Rattle.refusal.specs.Questions.{verdict_of, first_no};
 ghost use Rattle.records.specs.Read.{read_head};
@@ -25,6 +25,7 @@ pub struct Head {
     pub peak: u8,
     pub returns: u8,
     pub worst: u32,
+    // Zero where there is none, as the format of sheets has it.
     pub rows: u8,
     pub windows: u8,
 }
@@ -33,7 +34,7 @@ pub struct Head {
 pub fn is_whole(sheet: &[u8]) -> bool
     ensures { result ≡ whole_records sheet.now }
 {
-    sheet.len() % 18 == 0 && 36 <= sheet.len() && sheet.len() <= 4608
+    sheet.len() % 18 == 0 && (36..=4608).contains(&sheet.len())
 }
 
 impl Head {
@@ -54,17 +55,24 @@ impl Head {
     }
 }
 
+// The address past a slot.
+fn past(origin: u16, length: u16) -> u32
+    ensures { result ≡ origin + length }
+{
+    u32::from(origin) + u32::from(length)
+}
+
 impl Candidate<'_> {
     // Is the code 1 to 1,024 bytes, as the head says?
+    #[tactic(auto, unfolding(crate::specs::Heads::sized_as))]
     fn is_sized(&self) -> bool
         ensures { result ≡ sized_as (routine self.now) }
     {
-        self.head.length as usize == self.code.len()
-            && 1 <= self.head.length
-            && self.head.length <= 1024
+        usize::from(self.head.length) == self.code.len() && (1..=1024).contains(&self.head.length)
     }
 
     // Are arguments and results at most 64, and at most the data peak?
+    #[tactic(auto, unfolding(crate::specs::Heads::few_parameters))]
     fn has_few_parameters(&self) -> bool
         ensures { result ≡ few_parameters (routine self.now) }
     {
@@ -75,36 +83,33 @@ impl Candidate<'_> {
             && head.results <= head.peak
     }
 
+    #[tactic(auto, unfolding(crate::specs::Heads::in_area))]
     fn is_in_area(&self, settings: &Settings) -> bool
         ensures { result ≡ in_area settings.now (routine self.now) }
     {
-        let end = self.head.origin as u32 + self.head.length as u32;
-        settings.first <= self.head.origin && end <= settings.last as u32 + 1
+        let end = past(self.head.origin, self.head.length);
+        settings.first <= self.head.origin && end <= u32::from(settings.last) + 1
     }
 
     fn is_apart(&self, entry: &Entry) -> bool
         ensures { result ≡ apart (routine self.now) (digest_of entry.now) }
     {
-        let end = self.head.origin as u32 + self.head.length as u32;
-        end <= entry.origin as u32
-            || entry.origin as u32 + entry.length as u32 <= self.head.origin as u32
+        let end = past(self.head.origin, self.head.length);
+        end <= u32::from(entry.origin)
+            || past(entry.origin, entry.length) <= u32::from(self.head.origin)
     }
 
     // Is it clear of every fitted routine?
     fn is_clear(&self, fitted: &[Entry]) -> bool
         ensures { result ≡ list_all (apart (routine self.now)) (digests_of fitted.now) }
     {
-        for entry in fitted {
-            if !self.is_apart(entry) {
-                return false;
-            }
-        }
-        true
+        fitted.iter().all(|entry| self.is_apart(entry))
     }
 }
 
 impl<B: Board> Scene<'_, B> {
     // Asks of the head.
+    #[tactic(auto, unfolding(crate::specs::Heads::head_asks))]
     pub fn judge_head(&self) -> Result<(), Refusal>
         ensures { verdict_of result ≡ first_no (head_asks (ground B.Board.meaning self.now)) }
     {

@@ -15,7 +15,7 @@ pub use bytes::record_count;
 pub use chain::{Chain, Link};
 pub use entry::Entry;
 pub use head::{Head, is_whole};
-pub use record::{Judged, Record, read_record, walk};
+pub use record::{Judged, Record, Records, read_record, walk};
 pub use row::{Pointers, Row};
 pub use scene::{Candidate, Scene};
 pub use window::Window;

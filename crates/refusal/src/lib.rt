@@ -57,6 +57,7 @@ impl Question {
     pub fn number(self) -> u8
         ensures { result ≡ number self }
     {
+        // The discriminant itself: `From<Question>` for `u8` would say the same twice.
         self as u8
     }
 }
@@ -72,9 +73,7 @@ impl fmt::Display for Refusal {
     ghost output = { λ x. Some (spelt x) };
 
     fn fmt<W: fmt::Write>(&self, f: &mut fmt::Formatter<W>) -> fmt::Result {
-        let number = self.question.number();
-        let place = self.place;
-        write!(f, "NO {number} AT {place}")
+        write!(f, "NO {} AT {}", self.question.number(), self.place)
     }
 }
 
@@ -82,6 +81,7 @@ impl fmt::Display for Refusal {
 pub fn ask(question: Question, place: usize, answer: bool) -> Result<(), Refusal>
     ensures { verdict_of result ≡ first_no (asked (number question) place answer ∷ []) }
 {
+    // Plainer than `then_some` and `ok_or`.
     if answer {
         Ok(())
     } else {

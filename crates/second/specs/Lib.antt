@@ -1,0 +1,3 @@
+pub mod Fault
+pub mod Model
+pub mod Use

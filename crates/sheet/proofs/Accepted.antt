@@ -4,6 +4,7 @@ use Rattle.std.proofs.lemmas.List.{drop_all}
 use Rattle.std.proofs.lemmas.Bool.{ltb-true, leb-true, eqb-true, and_parts, cases_lt}
 use Rattle.std.specs.List.{AllByRecursion, list_all}
 use Rattle.refusal.specs.Questions.{Asked, accepted, first_no}
+use Rattle.refusal.proofs.Verdicts.{first_no-++}
 use Rattle.instruction.specs.Decode.{decoded}
 use Rattle.records.specs.declared.chain.Link.{Link}
 use Rattle.records.specs.declared.window.Window.{Window}
@@ -17,6 +18,9 @@ use Rattle.records.specs.Rows.{placed, row_asks}
 use Rattle.records.proofs.Along.{then-rest, then_first, yes_then, along-passed}
 use Rattle.sheet.specs.Layouts.{Low}
 use Rattle.sheet.specs.Kept.{eight_places, entry_of}
+
+-- one list of questions after another
+pub ruleset in_order = first_no-++
 
 -- what a kind's questions say of a record holds of each record of an accepted chain
 module _ {R : Type 0} (number : ℕ) (read : List ℕ → R) (asks : ℕ → ℕ → Option R → R → List Asked) (sheet : List ℕ) (P : R → Type 0)

@@ -1,7 +1,12 @@
 -- The origins that an accepted entry keeps as called: there is a place for each, since each is a fitted routine's.
-use Rattle.std.proofs.Common.{◌≡◌, ℕ, zero, suc, ◌<◌, ◌≤◌, Bool, true, false, cond, ◌||◌, eqb, List, [], ◌∷◌, length, replicate, is_some, Some, None, Option, sym, refl, ap, ◌∙◌, subst, ⊎_elim, arith}
-use Rattle.std.proofs.lemmas.Bool.{eq-eqb, eqb-true, ne_eqb, cond-true, cond-false, cases_eq, or_cases}
-use Rattle.std.specs.List.{AllByRecursion}
+use Rattle.std.proofs.Common.{◌≡◌, ℕ, zero, suc, ◌<◌, Bool, true, false, not, ◌||◌, eqb, List, [], ◌∷◌, length, map, filter, replicate, is_some, Some, None, Option, sym, refl, ap, ◌∙◌, subst, arith}
+use Rattle.std.proofs.Math.Bool.{or_assoc, or_comm, or-false}
+use Rattle.std.proofs.lemmas.Bool.Decides.{nat_tests}
+use Rattle.std.proofs.lemmas.Bool.{eqb-true, ne_eqb, false≢true}
+use Rattle.std.proofs.lemmas.List.{length-map}
+use Rattle.std.proofs.lemmas.List.Filters.{length-filter_both}
+use Rattle.std.proofs.lemmas.Map.Views.{any-filter_same}
+use Rattle.std.specs.List.{AllByRecursion, list_any}
 use Rattle.refusal.specs.Questions.{accepted, first_no}
 use Rattle.refusal.proofs.Verdicts.{first_no-++}
 use Rattle.instruction.specs.declared.decoding.Instruction.{Instruction}
@@ -24,82 +29,30 @@ use Rattle.sheet.specs.Questions.{step_at}
 use Rattle.sheet.specs.Kept.{call_by, call_in, call_of, noted, noted_call, calls_of, entry_of}
 use Rattle.sheet.specs.Laws.{is_origin, KeepsCalls}
 
--- Tests.
-
-or_swap : (a b : Bool) → (a || b) ≡ (b || a)
-or_swap true true = refl
-or_swap true false = refl
-or_swap false true = refl
-or_swap false false = refl
-
-or_three : (a b c : Bool) → (a || (b || c)) ≡ ((a || b) || c)
-or_three true b c = refl
-or_three false b c = refl
-
 or_again : (a b : Bool) → (a || b) ≡ ((a || b) || a)
 or_again true b = refl
 or_again false true = refl
 or_again false false = refl
 
-or_no : (a : Bool) → a ≡ (a || false)
-or_no true = refl
-or_no false = refl
-
 -- Numbers in a list, and the list without one of them.
 
 abbrev is_in : ℕ → List ℕ → Bool
-is_in t os = any_pass (λ o. eqb o t) os
+is_in t os = list_any (λ o. eqb o t) os
 
 abbrev without : ℕ → List ℕ → List ℕ
-without u [] = []
-without u (o ∷ os) = cond (eqb o u) (without u os) (o ∷ without u os)
+without u os = filter (λ o. not (eqb o u)) os
 
-skipped : (u o : ℕ) (os : List ℕ) → o ≡ u → without u (o ∷ os) ≡ without u os
-skipped u o os e = cond-true (eqb o u) (without u os) (o ∷ without u os) (eq-eqb o u e)
-
-stays : (u o : ℕ) (os : List ℕ) → (o ≡ u → ⊥) → without u (o ∷ os) ≡ o ∷ without u os
-stays u o os n = cond-false (eqb o u) (without u os) (o ∷ without u os) (ne_eqb o u n)
-
-without_le : (u : ℕ) (os : List ℕ) → length (without u os) ≤ length os
-without_le u [] = omega arith
-without_le u (o ∷ os) =
-    let rest = without_le u os in
-    ⊎_elim
-    (λ (e : o ≡ u). subst (λ (z : List ℕ). length z ≤ suc (length os)) (sym (skipped u o os e)) (omega (arith, rest)))
-    (λ (n : o ≡ u → ⊥). subst (λ (z : List ℕ). length z ≤ suc (length os)) (sym (stays u o os n)) (omega (arith, rest)))
-    (cases_eq o u)
-
-no_other : (o t : ℕ) (b : Bool) → (eqb o t || b) ≡ true → (o ≡ t → ⊥) → b ≡ true
-no_other o t b e n = ⊎_elim (λ (h : eqb o t ≡ true). absurd (n (eqb-true o t h))) (λ h. h) (or_cases (eqb o t) b e)
+some : (os : List ℕ) (u : ℕ) → is_in u os ≡ true → 0 < length os
+some [] u e = absurd (false≢true e)
+some (o ∷ os) u e = omega arith
 
 without_lt : (u : ℕ) (os : List ℕ) → is_in u os ≡ true → length (without u os) < length os
-without_lt u [] e = let z : ◌≡◌ {A = ℕ} 0 1 = cc in absurd (omega arith)
-without_lt u (o ∷ os) e =
-    let most = without_le u os in
-    ⊎_elim
-    (λ (h : o ≡ u). subst (λ (z : List ℕ). length z < suc (length os)) (sym (skipped u o os h)) (omega (arith, most)))
-    (λ (n : o ≡ u → ⊥).
-    let rest = without_lt u os (no_other o u (is_in u os) e n) in
-    subst (λ (z : List ℕ). length z < suc (length os)) (sym (stays u o os n)) (omega (arith, rest)))
-    (cases_eq o u)
-
-or_true : (a b : Bool) → b ≡ true → (a || b) ≡ true
-or_true true b e = refl
-or_true false b e = e
+without_lt u os e =
+    let same = some (filter (λ o. eqb o u) os) u (any-filter_same (λ o. eqb o u) (λ o. eqb o u) true (λ k s. s) os ∙ e) in
+    omega (arith, same, length-filter_both (λ o. eqb o u) (λ o. not (eqb o u)) (λ o. refl) os)
 
 in_without : (t u : ℕ) (os : List ℕ) → (t ≡ u → ⊥) → is_in t os ≡ true → is_in t (without u os) ≡ true
-in_without t u [] n e = e
-in_without t u (o ∷ os) n e =
-    ⊎_elim
-    (λ (h : o ≡ u).
-    subst (λ (z : List ℕ). is_in t z ≡ true) (sym (skipped u o os h)) (in_without t u os n (no_other o t (is_in t os) e (λ (k : o ≡ t). n (sym k ∙ h)))))
-    (λ (m : o ≡ u → ⊥).
-    subst (λ (z : List ℕ). is_in t z ≡ true) (sym (stays u o os m))
-    (⊎_elim
-    (λ (h : o ≡ t). ap (λ (b : Bool). b || is_in t (without u os)) (eq-eqb o t h))
-    (λ (k : o ≡ t → ⊥). or_true (eqb o t) (is_in t (without u os)) (in_without t u os n (no_other o t (is_in t os) e k)))
-    (cases_eq o t)))
-    (cases_eq o u)
+in_without t u os n e = any-filter_same (λ o. eqb o t) (λ o. not (eqb o u)) true (λ k s. ap not (ne_eqb k u (λ z. n (sym (eqb-true k t s) ∙ z)))) os ∙ e
 
 -- Places that hold different numbers of a list, and then nothing. Each place that is taken leaves fewer to come.
 
@@ -119,29 +72,17 @@ fits-empty os (None ∷ ps) e = e
 fits-empty os (Some u ∷ ps) e = absurd e
 
 there : (u t : ℕ) (ps : List (Option ℕ)) → u ≡ t → noted (Some u ∷ ps) t ≡ Some u ∷ ps
-there u t ps e = cond-true (eqb u t) (Some u ∷ ps) (Some u ∷ noted ps t) (eq-eqb u t e)
-
-onwards : (u t : ℕ) (ps : List (Option ℕ)) → (u ≡ t → ⊥) → noted (Some u ∷ ps) t ≡ Some u ∷ noted ps t
-onwards u t ps n = cond-false (eqb u t) (Some u ∷ ps) (Some u ∷ noted ps t) (ne_eqb u t n)
+there u t ps e = grind (arith, nat_tests)
 
 fits-noted : (os : List ℕ) (ps : List (Option ℕ)) (t : ℕ) → is_in t os ≡ true → Fits os ps → Fits os (noted ps t)
 fits-noted os [] t i f = tt
 fits-noted os (None ∷ ps) t i f = (i, fits-empty (without t os) ps f)
-fits-noted os (Some u ∷ ps) t i f =
-    ⊎_elim
-    (λ (e : u ≡ t). subst (λ (z : List (Option ℕ)). Fits os z) (sym (there u t ps e)) f)
-    (λ (n : u ≡ t → ⊥).
-    subst (λ (z : List (Option ℕ)). Fits os z) (sym (onwards u t ps n)) (f.0, fits-noted (without u os) ps t (in_without t u os (λ (e : t ≡ u). n (sym e)) i) f.1))
-    (cases_eq u t)
+fits-noted os (Some u ∷ ps) t i f = let rest = fits-noted (without u os) ps t in let still = in_without t u os in grind (arith, nat_tests)
 
 length-noted : (ps : List (Option ℕ)) (t : ℕ) → length (noted ps t) ≡ length ps
 length-noted [] t = refl
 length-noted (None ∷ ps) t = refl
-length-noted (Some u ∷ ps) t =
-    ⊎_elim
-    (λ (e : u ≡ t). ap (λ (z : List (Option ℕ)). length z) (there u t ps e))
-    (λ (n : u ≡ t → ⊥). ap (λ (z : List (Option ℕ)). length z) (onwards u t ps n) ∙ ap suc (length-noted ps t))
-    (cases_eq u t)
+length-noted (Some u ∷ ps) t = let rest = length-noted ps t in grind (arith, nat_tests)
 
 abbrev lists : ℕ → List (Option ℕ) → Bool
 lists s ps = any_pass (is_origin s) ps
@@ -149,19 +90,12 @@ lists s ps = any_pass (is_origin s) ps
 -- where there are more places than numbers, one that is noted is there afterwards
 lists-noted : (os : List ℕ) (ps : List (Option ℕ)) (t s : ℕ) → length os < length ps → is_in t os ≡ true → Fits os ps → lists s (noted ps t) ≡ (lists s ps || eqb t s)
 lists-noted os [] t s h i f = absurd (omega arith)
-lists-noted os (None ∷ ps) t s h i f = or_swap (eqb t s) (lists s ps)
+lists-noted os (None ∷ ps) t s h i f = or_comm (eqb t s) (lists s ps)
 lists-noted os (Some u ∷ ps) t s h i f =
-    ⊎_elim
-    (λ (e : u ≡ t).
-    ap (λ (z : List (Option ℕ)). lists s z) (there u t ps e)
-    ∙ or_again (eqb u s) (lists s ps)
-    ∙ ap (λ (z : ℕ). (eqb u s || lists s ps) || eqb z s) e)
-    (λ (n : u ≡ t → ⊥).
     let fewer = without_lt u os f.0 in
-    ap (λ (z : List (Option ℕ)). lists s z) (onwards u t ps n)
-    ∙ ap (λ (z : Bool). eqb u s || z) (lists-noted (without u os) ps t s (omega (arith, fewer)) (in_without t u os (λ (e : t ≡ u). n (sym e)) i) f.1)
-    ∙ or_three (eqb u s) (lists s ps) (eqb t s))
-    (cases_eq u t)
+    let rest = lists-noted (without u os) ps t s in
+    let still = in_without t u os in
+    grind (arith, nat_tests, or_again, or_assoc)
 
 -- The origins that rows call.
 
@@ -172,7 +106,7 @@ KnownCall os (Some t) = is_in t os ≡ true
 module _ (R : Routine) (os : List ℕ) where
   calls_law : (rows : List Row) (ps : List (Option ℕ)) (s : ℕ) → length os < length ps → Fits os ps → AllByRecursion (λ r. KnownCall os (call_of R r)) rows
       → lists s (calls_of R ps rows) ≡ (lists s ps || any_pass (λ r. is_origin s (call_of R r)) rows)
-  calls_law [] ps s h f all = or_no (lists s ps)
+  calls_law [] ps s h f all = sym (or-false (lists s ps))
   calls_law (r ∷ rs) ps s h f all = go (call_of R r) all.0 (λ qs h2 f2. calls_law rs qs s h2 f2 all.1)
     where
       go : (o : Option ℕ) → KnownCall os o → ((qs : List (Option ℕ)) → length os < length qs → Fits os qs → lists s (calls_of R qs rs) ≡ (lists s qs || any_pass (λ q. is_origin s (call_of R q)) rs))
@@ -181,30 +115,16 @@ module _ (R : Routine) (os : List ℕ) where
       go (Some t) k more =
           more (noted ps t) (subst (λ (n : ℕ). length os < n) (sym (length-noted ps t)) h) (fits-noted os ps t k f)
           ∙ ap (λ (z : Bool). z || any_pass (λ q. is_origin s (call_of R q)) rs) (lists-noted os ps t s h k f)
-          ∙ sym (or_three (lists s ps) (eqb t s) (any_pass (λ q. is_origin s (call_of R q)) rs))
+          ∙ or_assoc (lists s ps) (eqb t s) (any_pass (λ q. is_origin s (call_of R q)) rs)
 
 -- What was asked of the rows: each call is of a fitted routine.
 
-no_some : {A : Type 0} (x : A) → None ≡ Some x → ⊥
-no_some x e = let z : ◌≡◌ {A = ℕ} 0 1 = cc in omega arith
-
 abbrev origins : List Digest → List ℕ
-origins [] = []
-origins (D ∷ Ds) = D.origin ∷ origins Ds
-
-origins-length : (Ds : List Digest) → length (origins Ds) ≡ length Ds
-origins-length [] = refl
-origins-length (D ∷ Ds) = ap suc (origins-length Ds)
+origins Ds = map (λ D. D.origin) Ds
 
 found_in : (Ds : List Digest) (t : ℕ) → is_some (finds Ds t) ≡ true → is_in t (origins Ds) ≡ true
 found_in [] t e = e
-found_in (D ∷ Ds) t e =
-    ⊎_elim
-    (λ (h : D.origin ≡ t). ap (λ (b : Bool). b || is_in t (origins Ds)) (eq-eqb D.origin t h))
-    (λ (n : D.origin ≡ t → ⊥).
-    or_true (eqb D.origin t) (is_in t (origins Ds))
-    (found_in Ds t (sym (ap (λ (z : Option Digest). is_some z) (cond-false (eqb D.origin t) (Some D) (finds Ds t) (ne_eqb D.origin t n))) ∙ e)))
-    (cases_eq D.origin t)
+found_in (D ∷ Ds) t e = let rest = found_in Ds t in grind (arith, nat_tests)
 
 module _ (R : Routine) (Ds : List Digest) (i : ℕ) (r : Row) where
   by_call : (a : After) (back : ℕ) (d : Option Digest) → accepted ≡ first_no (call_asks R i r a back d) → is_some d ≡ true
@@ -247,6 +167,6 @@ pub keeps_calls : (R : Routine) (Ds : List Digest) (sheet : List ℕ) (ls : List
     → accepted ≡ first_no (each (step_at R Ds sheet) ls) → KeepsCalls R (entry_of R)
 unfolding entry_of
 keeps_calls R Ds sheet ls rows few pass t =
-    let start : length (origins Ds) < length (replicate 32 no_origin) = subst (λ (n : ℕ). n < 32) (sym (origins-length Ds)) few in
+    let start : length (origins Ds) < length (replicate 32 no_origin) = subst (λ (n : ℕ). n < 32) (sym (length-map Ds (λ D. D.origin))) few in
     calls_law R (origins Ds) R.rows (replicate 32 None) t start (fits-empty (origins Ds) (replicate 32 None) (all-empty 32))
     (subst (λ (z : List Row). AllByRecursion (λ r. KnownCall (origins Ds) (call_of R r)) z) (sym rows) (by_rows R Ds sheet ls pass))

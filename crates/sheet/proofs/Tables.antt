@@ -1,10 +1,12 @@
 -- The table of rows by their offsets, filled row by row, and the row that it finds.
-use Rattle.std.proofs.Common.{◌≡◌, ℕ, zero, suc, ◌+◌, ◌<◌, ◌≤◌, cond, eqb, List, [], ◌∷◌, length, get_or, set, replicate, Some, None, Option, sym, refl, ap, ◌∙◌, subst, ⊎_elim, arith}
+use Rattle.std.proofs.Common.{◌≡◌, ℕ, ◌+◌, ◌<◌, ◌≤◌, cond, eqb, List, [], ◌∷◌, length, get_or, set, replicate, Some, None, Option, sym, refl, ap, ◌∙◌, subst, arith}
 use Rattle.std.proofs.lemmas.List.{get_or-set_same, get_or-set_other, get_or-replicate, get_or_past}
-use Rattle.std.proofs.lemmas.Bool.{eq-eqb, ne_eqb, cond-true, cond-false, cases_eq, cases_lt}
+use Rattle.std.proofs.lemmas.Bool.Decides.{nat_tests}
+use Rattle.std.specs.List.{AllByRecursion}
+use Rattle.records.proofs.Along.{links_past_head}
 use Rattle.records.specs.declared.chain.Link.{Link}
 use Rattle.records.specs.declared.row.Row.{Row}
-use Rattle.records.specs.Records.{record_at, records, links, next_of, chain}
+use Rattle.records.specs.Records.{record_at, records, chain}
 use Rattle.records.specs.Read.{read_row}
 use Rattle.records.specs.Reader.{Rising, low}
 use Rattle.sheet.specs.Layouts.{index_at, Locates, Low}
@@ -28,13 +30,10 @@ pub record Fresh (table sheet : List ℕ) (rest : List Link) : Type 0 where
   pub none : (o : ℕ) → low offset_key before ≤ o → o < 1024 → get_or table o 0 ≡ 0
 
 or_zero : (a : ℕ) → or_else a 0 ≡ a
-or_zero a = ⊎_elim (λ e. cond-true (eqb a 0) 0 a (eq-eqb a 0 e) ∙ sym e) (λ n. cond-false (eqb a 0) 0 a (ne_eqb a 0 n)) (cases_eq a 0)
-
-or_first : (a b : ℕ) → 0 < a → or_else a b ≡ a
-or_first a b h = cond-false (eqb a 0) b a (ne_eqb a 0 (λ (e : a ≡ 0). omega arith))
+or_zero a = grind (arith, nat_tests)
 
 or_second : (a b : ℕ) → a ≡ 0 → or_else a b ≡ b
-or_second a b e = cond-true (eqb a 0) b a (eq-eqb a 0 e)
+or_second a b e = grind (arith, nat_tests)
 
 pub filling-start : (sheet : List ℕ) (ls : List Link) → Filling (replicate 1024 0) sheet ls ls
 filling-start sheet ls o h = or_second _ _ (get_or-replicate 1024 o 0 0 h)
@@ -63,27 +62,16 @@ module _ (table sheet : List ℕ) (all ls rest : List Link) (l : Link) (r : Row)
   pub filling-more : 0 < l.index → Fresh table sheet ls → Filling table sheet all ls → Filling (set table r.offset l.index) sheet all rest
   filling-more some f inv o h =
       let (b, at, up, none) = rises f in
-      ⊎_elim
-      (λ (e : r.offset ≡ o).
-      ap (λ (z : ℕ). or_else z (index_at sheet rest o)) (subst (λ (k : ℕ). get_or (set table r.offset l.index) k 0 ≡ l.index) e (get_or-set_same table r.offset l.index 0 (omega arith)))
-      ∙ or_first l.index (index_at sheet rest o) some
-      ∙ sym (cond-true (eqb r.offset o) l.index (index_at sheet rest o) (eq-eqb r.offset o e))
-      ∙ sym (index_here o)
-      ∙ sym (or_second (get_or table o 0) (index_at sheet ls o) (none o (omega arith) h))
-      ∙ inv o h)
-      (λ (ne : r.offset ≡ o → ⊥).
-      ap (λ (z : ℕ). or_else z (index_at sheet rest o)) (get_or-set_other table r.offset o l.index 0 (λ (e : o ≡ r.offset). ne (sym e)))
-      ∙ ap (λ (z : ℕ). or_else (get_or table o 0) z) (sym (index_here o ∙ cond-false (eqb r.offset o) l.index (index_at sheet rest o) (ne_eqb r.offset o ne)))
-      ∙ inv o h)
-      (cases_eq r.offset o)
+      let here_is = index_here o in
+      let before_is = inv o h in
+      let fresh_is = none o in
+      grind (arith, nat_tests, get_or-set_same, get_or-set_other)
 
 -- the row at hand, and those after it
 
 pub low_here : (sheet : List ℕ) (ls rest : List Link) (l : Link) (r : Row) → ls ≡ l ∷ rest → r ≡ read_row (record_at sheet l.index) → Low (records read_row sheet ls)
     → (r.offset < 1024) × Low (records read_row sheet rest)
-low_here sheet ls rest l r here row all =
-    let both : Low (records read_row sheet (l ∷ rest)) = subst (λ (z : List Link). Low (records read_row sheet z)) here all in
-    (subst (λ (z : Row). z.offset < 1024) (sym row) both.0, both.1)
+low_here sheet ls rest l r here row all = let both = rw here at all in (rw row both.0, both.1)
 
 pub filling_end : (table sheet : List ℕ) (all ls : List Link) → ls ≡ [] → Filling table sheet all ls → Locates table sheet all
 filling_end table sheet all ls e inv o h =
@@ -91,68 +79,34 @@ filling_end table sheet all ls e inv o h =
 
 -- The row that is found.
 
--- no index of a chain is zero
-abbrev pub Positive : List Link → Type 0
-Positive [] = Unit {0}
-Positive (l ∷ ls) = (0 < l.index) × Positive ls
-
-pub links-positive : (sheet : List ℕ) (most holder index : ℕ) → Positive (links sheet most holder index)
-unfolding links
-links-positive sheet zero holder index = tt
-links-positive sheet (suc most) holder index =
-    ⊎_elim
-    (λ (e : index ≡ 0). subst (λ (z : List Link). Positive z) (sym (cond-true (eqb index 0) [] (record { holder = holder; index = index } ∷ links sheet most index (next_of (record_at sheet index))) (eq-eqb index 0 e))) tt)
-    (λ (n : index ≡ 0 → ⊥).
-    let some : 0 < index = omega arith in
-    subst (λ (z : List Link). Positive z) (sym (cond-false (eqb index 0) [] (record { holder = holder; index = index } ∷ links sheet most index (next_of (record_at sheet index))) (ne_eqb index 0 n))) (some, links-positive sheet most index (next_of (record_at sheet index))))
-    (cases_eq index 0)
-
 -- the record that an index names, where it is not zero
 abbrev pub named : List ℕ → ℕ → Option Row
 named sheet i = cond (eqb i 0) None (Some (read_row (record_at sheet i)))
 
-pub row_named : (sheet : List ℕ) (origin a o : ℕ) (ls : List Link) → a ≡ origin + o → Positive ls → row_at origin (records read_row sheet ls) a ≡ named sheet (index_at sheet ls o)
+pub row_named : (sheet : List ℕ) (origin a o : ℕ) (ls : List Link) → a ≡ origin + o → AllByRecursion (λ l. 0 < l.index) ls → row_at origin (records read_row sheet ls) a ≡ named sheet (index_at sheet ls o)
 row_named sheet origin a o [] e p = refl
-row_named sheet origin a o (l ∷ ls) e p =
-    let r : Row = read_row (record_at sheet l.index) in
-    ⊎_elim
-    (λ (same : r.offset ≡ o).
-    let there : origin + r.offset ≡ a = omega arith in
-    let some : l.index ≡ 0 → ⊥ = λ (z : l.index ≡ 0). let p0 : 0 < l.index = p.0 in omega arith in
-    cond-true (eqb (origin + r.offset) a) (Some r) (row_at origin (records read_row sheet ls) a) (eq-eqb (origin + r.offset) a there)
-    ∙ sym (ap (λ (z : ℕ). named sheet z) (cond-true (eqb r.offset o) l.index (index_at sheet ls o) (eq-eqb r.offset o same)) ∙ cond-false (eqb l.index 0) None (Some r) (ne_eqb l.index 0 some)))
-    (λ (other : r.offset ≡ o → ⊥).
-    let apart : origin + r.offset ≡ a → ⊥ = λ (z : origin + r.offset ≡ a). other (omega arith) in
-    cond-false (eqb (origin + r.offset) a) (Some r) (row_at origin (records read_row sheet ls) a) (ne_eqb (origin + r.offset) a apart)
-    ∙ row_named sheet origin a o ls e p.1
-    ∙ sym (ap (λ (z : ℕ). named sheet z) (cond-false (eqb r.offset o) l.index (index_at sheet ls o) (ne_eqb r.offset o other))))
-    (cases_eq r.offset o)
+row_named sheet origin a o (l ∷ ls) e p = let rest = row_named sheet origin a o ls e p.1 in let some = p.0 in grind (arith, nat_tests)
 
 -- no row stands below the origin
 pub none_below : (origin a : ℕ) (rows : List Row) → a < origin → None ≡ row_at origin rows a
 none_below origin a [] h = refl
-none_below origin a (r ∷ rs) h =
-    none_below origin a rs h ∙ sym (cond-false (eqb (origin + r.offset) a) (Some r) (row_at origin rs a) (ne_eqb (origin + r.offset) a (λ (e : origin + r.offset ≡ a). omega arith)))
+none_below origin a (r ∷ rs) h = let rest = none_below origin a rs h in grind (arith, nat_tests)
 
 -- past the table there is no row
 pub index-past : (sheet : List ℕ) (o : ℕ) (ls : List Link) → 1024 ≤ o → Low (records read_row sheet ls) → index_at sheet ls o ≡ 0
 index-past sheet o [] h low = refl
-index-past sheet o (l ∷ ls) h low =
-    let here : (read_row (record_at sheet l.index)).offset < 1024 = low.0 in
-    cond-false (eqb (read_row (record_at sheet l.index)).offset o) l.index (index_at sheet ls o) (ne_eqb (read_row (record_at sheet l.index)).offset o (λ (e : (read_row (record_at sheet l.index)).offset ≡ o). omega arith))
-    ∙ index-past sheet o ls h low.1
+index-past sheet o (l ∷ ls) h low = let rest = index-past sheet o ls h low.1 in let here = low.0 in grind (arith, nat_tests)
 
 -- what the table has at an offset names the row that stands there
 module _ (table sheet : List ℕ) (first origin a o i : ℕ) (sized : length table ≡ 1024) (low : Low (records read_row sheet (chain sheet first))) (located : Locates table sheet (chain sheet first)) (there : a ≡ origin + o) (is : i ≡ get_or table o 0) where
   index_is : i ≡ index_at sheet (chain sheet first) o
-  index_is =
-      is ∙ ⊎_elim (λ near. located o near) (λ (far : 1024 ≤ o). get_or_past table o 0 (omega arith) ∙ sym (index-past sheet o (chain sheet first) far low)) (cases_lt o 1024)
+  index_is = let near = located o in let past = get_or_past table o 0 in let far = index-past sheet o (chain sheet first) in grind (arith, low)
 
   pub found_row : named sheet i ≡ row_at origin (records read_row sheet (chain sheet first)) a
-  found_row = ap (λ (z : ℕ). named sheet z) index_is ∙ sym (row_named sheet origin a o (chain sheet first) there (links-positive sheet 65537 0 first))
+  found_row = ap (λ (z : ℕ). named sheet z) index_is ∙ sym (row_named sheet origin a o (chain sheet first) there (links_past_head sheet 65537 0 first))
 
   pub found_none : i ≡ 0 → None ≡ row_at origin (records read_row sheet (chain sheet first)) a
-  found_none e = sym (cond-true (eqb i 0) None (Some (read_row (record_at sheet i))) (eq-eqb i 0 e)) ∙ found_row
+  found_none e = grind (arith, nat_tests, found_row)
 
   pub found_some : (i ≡ 0 → ⊥) → Some (read_row (record_at sheet i)) ≡ row_at origin (records read_row sheet (chain sheet first)) a
-  found_some n = sym (cond-false (eqb i 0) None (Some (read_row (record_at sheet i))) (ne_eqb i 0 n)) ∙ found_row
+  found_some n = grind (arith, nat_tests, found_row)

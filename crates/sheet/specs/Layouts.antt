@@ -1,13 +1,13 @@
 -- The rows of a candidate by their offsets.
-use Rattle.std.specs.Prelude.{◌≡◌, ℕ, ◌<◌, cond, List, [], ◌∷◌, None, ◌==◌, slice_index}
-use Rattle.std.specs.List.{AllByRecursion}
+use Rattle.std.specs.Prelude.{◌≡◌, ℕ, ◌<◌, cond, List, [], ◌∷◌, Some, None, Option, ◌==◌, slice_index}
+use Rattle.std.specs.List.{AllByRecursion, AllByRecursion-prop}
+use Rattle.std.specs.Coded.{×_prop, Unit-prop, le_prop}
 use Rattle.records.specs.declared.chain.Link.{Link}
 use Rattle.records.specs.declared.row.Row.{Row}
 use Rattle.records.specs.declared.scene.Candidate.{Candidate}
 use Rattle.records.specs.Records.{record_at, chain}
 use Rattle.records.specs.Reader.{Rising}
 use Rattle.records.specs.Routine.{routine}
-use Rattle.sheet.specs.declared.layout.Layout.{Layout}
 use Rattle.records.specs.Read.{read_row}
 
 -- the index of the record of the first row at an offset, or zero where there is none
@@ -28,8 +28,17 @@ pub record Read (c : Candidate) : Type 0 where
   pub rising : Rising (λ (r : Row). r.offset) None (routine c).rows
   pub low : Low (routine c).rows
 
--- its rows are found by the table
-pub record Laid (l : Layout) : Type 0 where
-  pub rising : Rising (λ (r : Row). r.offset) None (routine l.candidate).rows
-  pub low : Low (routine l.candidate).rows
-  pub located : Locates l.table l.candidate.sheet.now (chain l.candidate.sheet.now l.candidate.head.rows)
+-- and a table finds them
+pub record Laid (c : Candidate) (table : List ℕ) : Type 0 where
+  pub rising : Rising (λ (r : Row). r.offset) None (routine c).rows
+  pub low : Low (routine c).rows
+  pub located : Locates table c.sheet.now (chain c.sheet.now c.head.rows)
+
+-- Both facts can be so in one way only.
+
+pub rising-prop : (before : Option Row) (rows : List Row) → IsProp (Rising (λ (r : Row). r.offset) before rows)
+rising-prop before [] = Unit-prop
+rising-prop before (r ∷ rs) = ×_prop le_prop (rising-prop (Some r) rs)
+
+pub low-prop : (rows : List Row) → IsProp (Low rows)
+low-prop = AllByRecursion-prop _ (λ r. le_prop)

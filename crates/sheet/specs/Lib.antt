@@ -1,5 +1,5 @@
 pub mod Known
-pub mod Pointers
+pub mod Addresses
 pub mod Leads
 pub mod Steps
 pub mod Calls

@@ -1,5 +1,6 @@
 -- What is asked of each row: of the instruction that stands there, and of the rows that follow it.
 use Rattle.std.specs.Prelude.{ℕ, ◌+◌, ◌-◌, Bool, true, false, cond, ◌&&◌, List, [], ◌∷◌, is_some, Some, None, Option, ◌==◌, nat_le}
+use Rattle.std.specs.List.{list_all}
 use Rattle.refusal.specs.Questions.{Asked, ask}
 use Rattle.instruction.specs.declared.decoding.Instruction.{Instruction}
 use Rattle.instruction.specs.declared.control.Flow.{Flow}
@@ -37,13 +38,13 @@ abbrev pub known_there : After → Option Row → Bool
 known_there a None = true
 known_there a (Some f) = all_borne_out f.pointers a.known
 
--- of both ways on, each question of both before the next
-unfoldable pub ways : ℕ → ℕ → After → Option Row → Option Row → List Asked
-ways i cycles a f g =
-    ask 45 i (is_some f && is_some g)
-    ∷ (ask 46 i (same_depths a f && same_depths a g)
-    ∷ (ask 47 i (covers cycles a f && covers cycles a g)
-    ∷ (ask 48 i (known_there a f && known_there a g)
+-- of all ways on, each question of all before the next
+unfoldable pub ways : ℕ → ℕ → After → List (Option Row) → List Asked
+ways i cycles a followers =
+    ask 45 i (list_all (λ f. is_some f) followers)
+    ∷ (ask 46 i (list_all (same_depths a) followers)
+    ∷ (ask 47 i (list_all (covers cycles a) followers)
+    ∷ (ask 48 i (list_all (known_there a) followers)
     ∷ [])))
 
 -- What an instruction leaves.
@@ -85,7 +86,7 @@ fits R a D =
 unfoldable pub call_asks : Routine → ℕ → Row → After → ℕ → Option Digest → List Asked
 call_asks R i r a back None = ask 42 i false ∷ []
 call_asks R i r a back (Some D) =
-    ask 42 i true ∷ (ask 43 i (fits R a D) ∷ ways i r.cycles (after_call a D) (follower R back) (follower R back))
+    ask 42 i true ∷ (ask 43 i (fits R a D) ∷ ways i r.cycles (after_call a D) (follower R back ∷ []))
 
 -- exactly the results are left, and no return byte
 unfoldable pub leaves_results : After → ℕ → Bool
@@ -101,7 +102,7 @@ unfoldable pub enough : Row → Instruction → Bool
 enough r x = nat_le x.family.needs r.depth && nat_le (own_takes x) r.returns
 
 unfoldable pub flow_asks : Routine → List Digest → ℕ → Row → After → ℕ → Flow → List Asked
-flow_asks R fitted i r a back (Goes v w) = ways i r.cycles a (follower R v) (follower R w)
+flow_asks R fitted i r a back (Goes v w) = ways i r.cycles a (follower R v ∷ (follower R w ∷ []))
 flow_asks R fitted i r a back (Calls t) = call_asks R i r a back (finds fitted t)
 flow_asks R fitted i r a back Returns = return_asks R i r a
 

@@ -1,124 +1,104 @@
 // The rows that follow a row.
-ghost use Rattle.std.specs.Prelude.{◌≡◌, ◌+◌, ◌&&◌, is_some, nat_le};
+ghost use Rattle.std.specs.Prelude.{◌≡◌, ◌+◌, is_some, nat_le};
+ghost use Rattle.std.specs.List.{list_all};
 ghost use Rattle.refusal.specs.Questions.{verdict_of, first_no};
 ghost use Rattle.records.specs.Routine.{routine};
 ghost use Rattle.sheet.specs.Steps.{same_depths, covers, known_there, ways, leaves_results, return_asks};
 
 use crate::pointers::are_borne_out;
-use records::{Candidate, Pointers, Row};
+use crate::visit::Visit;
+use records::{Pointers, Row};
 use refusal::{Question, Refusal, ask};
 
 // What an instruction leaves: the depths, the cycles that it takes, with a called routine's worst, and the known pointers.
 #[derive(Clone, Copy)]
 pub struct After {
-    pub depth: usize,
-    pub returns: usize,
+    pub depth: u16,
+    pub returns: u16,
     pub count: u8,
     pub worst: u32,
     pub known: Pointers,
 }
 
+// Are there rows on all ways?
+fn are_there(rows: &[Option<Row>]) -> bool
+    ensures { result ≡ list_all (λ f. is_some f) rows.now }
+{
+    rows.iter().all(Option::is_some)
+}
+
 impl After {
-    fn has_depths(&self, row: Option<Row>) -> bool
-        ensures { result ≡ same_depths self.now row }
+    // Do the rows claim the depths that are left?
+    fn has_depths(&self, rows: &[Option<Row>]) -> bool
+        ensures { result ≡ list_all (same_depths self.now) rows.now }
     {
-        match row {
-            None => true,
-            Some(f) => f.depth as usize == self.depth && f.returns as usize == self.returns,
-        }
+        rows.iter().all(|row| {
+            row.is_none_or(|f| {
+                u16::from(f.depth) == self.depth && u16::from(f.returns) == self.returns
+            })
+        })
     }
 
-    fn is_covered(&self, cycles: u32, row: Option<Row>) -> bool
-        ensures { result ≡ covers cycles self.now row }
+    // Do the cycles cover what the instruction takes, with the cycles of each row?
+    fn is_covered(&self, cycles: u32, rows: &[Option<Row>]) -> bool
+        ensures { result ≡ list_all (covers cycles self.now) rows.now }
     {
-        match row {
-            None => true,
-            Some(f) => { self.count as u64 + self.worst as u64 + f.cycles as u64 <= cycles as u64 }
-        }
+        rows.iter().all(|row| {
+            row.is_none_or(|f| {
+                u64::from(self.count) + u64::from(self.worst) + u64::from(f.cycles)
+                    <= u64::from(cycles)
+            })
+        })
     }
 
-    fn bears_out(&self, row: Option<Row>) -> bool
-        ensures { result ≡ known_there self.now row }
+    // Is each pointer known that the rows claim?
+    fn bears_out(&self, rows: &[Option<Row>]) -> bool
+        ensures { result ≡ list_all (known_there self.now) rows.now }
     {
-        match row {
-            None => true,
-            Some(f) => are_borne_out(f.pointers, self.known),
-        }
+        rows.iter().all(|row| row.is_none_or(|f| are_borne_out(f.pointers, self.known)))
     }
 
     // Are just the results left, and no return byte?
+    #[tactic(auto, unfolding(crate::specs::Steps::leaves_results))]
     fn leaves_results(&self, results: u8) -> bool
         ensures { result ≡ leaves_results self.now results }
     {
-        self.depth == results as usize && self.returns == 0
+        self.depth == u16::from(results) && self.returns == 0
     }
 
     // Do the cycles cover what the instruction takes?
     fn is_within(&self, cycles: u32) -> bool
         ensures { result ≡ nat_le (self.now.count + self.now.worst) cycles }
     {
-        self.count as u64 + self.worst as u64 <= cycles as u64
+        u64::from(self.count) + u64::from(self.worst) <= u64::from(cycles)
     }
 }
 
-fn are_there(one: Option<Row>, other: Option<Row>) -> bool
-    ensures { result ≡ (is_some one && is_some other) }
-{
-    one.is_some() && other.is_some()
-}
+impl Visit<'_, '_> {
+    // Asks of all ways on from the row, each question of all before the next.
+    #[tactic(auto, unfolding(crate::specs::Steps::ways))]
+    pub(crate) fn judge_ways(&self, after: After, followers: &[Option<Row>]) -> Result<(), Refusal>
+        ensures { verdict_of result ≡ first_no (ways self.now.place self.now.row.cycles after followers.now) }
+    {
+        let place = usize::from(self.place);
+        ask(Question::FollowerMissing, place, are_there(followers))?;
+        let depths = after.has_depths(followers);
+        ask(Question::FollowerDepths, place, depths)?;
+        let covered = after.is_covered(self.row.cycles, followers);
+        ask(Question::FollowerCycles, place, covered)?;
+        let known = after.bears_out(followers);
+        ask(Question::FollowerPointers, place, known)
+    }
 
-fn have_depths(after: After, one: Option<Row>, other: Option<Row>) -> bool
-    ensures { result ≡ (same_depths after one && same_depths after other) }
-{
-    after.has_depths(one) && after.has_depths(other)
-}
-
-fn are_covered(cycles: u32, after: After, one: Option<Row>, other: Option<Row>) -> bool
-    ensures { result ≡ (covers cycles after one && covers cycles after other) }
-{
-    after.is_covered(cycles, one) && after.is_covered(cycles, other)
-}
-
-fn are_known(after: After, one: Option<Row>, other: Option<Row>) -> bool
-    ensures { result ≡ (known_there after one && known_there after other) }
-{
-    after.bears_out(one) && after.bears_out(other)
-}
-
-// Asks of both ways on from a row, each question of both before the next.
-pub fn judge_ways(
-    place: u8,
-    cycles: u32,
-    after: After,
-    one: Option<Row>,
-    other: Option<Row>,
-) -> Result<(), Refusal>
-    ensures { verdict_of result ≡ first_no (ways place cycles after one other) }
-{
-    let place = place as usize;
-    ask(Question::FollowerMissing, place, are_there(one, other))?;
-    let depths = have_depths(after, one, other);
-    ask(Question::FollowerDepths, place, depths)?;
-    let covered = are_covered(cycles, after, one, other);
-    ask(Question::FollowerCycles, place, covered)?;
-    ask(
-        Question::FollowerPointers,
-        place,
-        are_known(after, one, other),
-    )
-}
-
-// Asks of a return.
-pub fn judge_return(
-    candidate: &Candidate<'_>,
-    place: u8,
-    row: Row,
-    after: After,
-) -> Result<(), Refusal>
-    ensures { verdict_of result ≡ first_no (return_asks (routine candidate.now) place row after) }
-{
-    let place = place as usize;
-    let results = after.leaves_results(candidate.head.results);
-    ask(Question::ReturnMisfit, place, results)?;
-    ask(Question::FollowerCycles, place, after.is_within(row.cycles))
+    // Asks of a return.
+    #[tactic(auto, unfolding(crate::specs::Steps::return_asks))]
+    pub(crate) fn judge_return(&self, after: After) -> Result<(), Refusal>
+        ensures { verdict_of result ≡ first_no (return_asks (routine self.now.layout.now.candidate) self.now.place self.now.row after) }
+    {
+        let place = usize::from(self.place);
+        let results = after.leaves_results(self.layout.candidate.head.results);
+        ask(Question::ReturnMisfit, place, results)?;
+        let covered = after.is_within(self.row.cycles);
+        ask(Question::FollowerCycles, place, covered)
+    }
 }

@@ -10,5 +10,6 @@ mod memory;
 mod pointers;
 mod step;
 mod verdict;
+mod visit;
 
 pub use verdict::examine;

@@ -3,33 +3,40 @@ ghost use Rattle.std.specs.Prelude.{◌≡◌, ◌≤◌, None};
 ghost use Rattle.instruction.specs.Claim.{claim, span, past};
 ghost use Rattle.records.specs.Lists.{any_pass};
 ghost use Rattle.records.specs.Routine.{routine};
-ghost use Rattle.sheet.specs.Known.{holds, held_by, allowed, claimed};
-ghost use Rattle.sheet.specs.Pointers.{spanned};
+ghost use Rattle.sheet.specs.Known.{grants, holds, held_by, allowed, claimed};
+ghost use Rattle.sheet.specs.Addresses.{spanned};
 ghost use Rattle.sheet.specs.Leads.{knows};
 
 use crate::layout::Layout;
 use crate::pointers::claimed;
+use board::Right;
 use instruction::{Instruction, MemoryOperand, Target};
-use records::{Chain, Pointers, Row, Window, read_record};
+use records::{Pointers, Row, Window};
 
-// Addresses from a first to a last.
+// Addresses from a first to a last. (No window: what an instruction reaches is no record.)
 #[derive(Clone, Copy)]
 pub struct Addresses {
     pub first: u16,
     pub last: u16,
 }
 
-const READ: u8 = 1;
-
-const WRITE: u8 = 2;
+// Does a window's right grant what is wanted? By cases, as the definition has it.
+fn grants(own: Option<Right>, wanted: Option<Right>) -> bool
+    ensures { result ≡ grants own wanted }
+{
+    match (own, wanted) {
+        (Some(Right::Both), _) => true,
+        (Some(Right::Read), Some(Right::Read)) => true,
+        (Some(Right::Write), Some(Right::Write)) => true,
+        _ => false,
+    }
+}
 
 // Does a window hold all these addresses, with at least this right?
-fn is_in(addresses: Addresses, right: u8, window: Window) -> bool
+fn is_in(addresses: Addresses, right: Option<Right>, window: Window) -> bool
     ensures { result ≡ holds addresses.first addresses.last right window }
 {
-    window.first <= addresses.first
-        && addresses.last <= window.last
-        && (window.right == 3 || window.right == right)
+    window.first <= addresses.first && addresses.last <= window.last && grants(window.right, right)
 }
 
 // From a pointer on, if it is known and none of the addresses is past the end.
@@ -38,47 +45,44 @@ fn past(pointer: Option<u16>, first: u8, last: u8) -> Option<Addresses>
     ensures { spanned result ≡ past pointer first last }
 {
     let at = pointer?;
-    let last = at.checked_add(last as u16)?;
+    let last = at.checked_add(u16::from(last))?;
     Some(Addresses {
-        first: at + first as u16,
+        first: at + u16::from(first),
         last,
     })
 }
 
 impl Layout<'_> {
     // Does one window hold all these addresses, with at least this right?
-    pub fn has_window(&self, addresses: Addresses, right: u8) -> bool
+    pub fn has_window(&self, addresses: Addresses, right: Option<Right>) -> bool
         ensures { result ≡ any_pass (holds addresses.first addresses.last right) (routine self.now.candidate).windows }
     {
-        let sheet = self.candidate.sheet;
-        let mut windows = Chain::new(sheet, self.candidate.head.windows);
-        while let Some(link) = windows.next() {
-            let window = read_record::<Window>(sheet, link.index);
-            if is_in(addresses, right, window) {
-                return true;
-            }
-        }
-        false
+        self.candidate
+            .windows()
+            .any(|window| is_in(addresses, right, window))
     }
 
-    fn is_held(&self, addresses: Option<Addresses>, right: u8) -> bool
+    #[tactic(auto, using(crate::proofs::Entries::any_unsure))]
+    fn is_held(&self, addresses: Option<Addresses>, right: Right) -> bool
         ensures { result ≡ any_pass (held_by (spanned addresses) right) (routine self.now.candidate).windows }
     {
-        match addresses {
-            None => false,
-            Some(addresses) => self.has_window(addresses, right),
-        }
+        // No `is_some_and`: of its closure the check infers no answer.
+        let Some(addresses) = addresses else {
+            return false;
+        };
+        self.has_window(addresses, Some(right))
     }
 
     // Do the addresses that the instruction of a row reads or writes lie in a window with that right?
     pub fn is_allowed(&self, row: Row, instruction: &Instruction) -> bool
         ensures { result ≡ allowed (routine self.now.candidate).windows (claim instruction.now (knows (routine self.now.candidate) row)) }
     {
-        match instruction.memory() {
-            MemoryOperand::Nothing => true,
-            MemoryOperand::Read(target) => self.is_held(reached(target, row.pointers), READ),
-            MemoryOperand::Write(target) => self.is_held(reached(target, row.pointers), WRITE),
-        }
+        let (target, right) = match instruction.memory() {
+            MemoryOperand::Nothing => return true,
+            MemoryOperand::Read(target) => (target, Right::Read),
+            MemoryOperand::Write(target) => (target, Right::Write),
+        };
+        self.is_held(reached(target, row.pointers), right)
     }
 }
 

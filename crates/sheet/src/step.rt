@@ -1,137 +1,105 @@
 // Each row with what it needs and reaches, and with the rows that follow it.
-ghost use Rattle.std.specs.Prelude.{◌≡◌, ◌+◌, ◌<◌, Some};
+ghost use Rattle.std.specs.Prelude.{◌≡◌, ◌+◌, Some};
 ghost use Rattle.refusal.specs.Questions.{verdict_of, first_no};
 ghost use Rattle.instruction.specs.Flow.{flow, ends};
 ghost use Rattle.records.specs.Lists.{each};
 ghost use Rattle.records.specs.Records.{chain};
 ghost use Rattle.records.specs.Routine.{routine, digests_of};
-ghost use Rattle.sheet.specs.Layouts.{Laid};
-ghost use Rattle.sheet.specs.Leads.{word_from, primed};
 ghost use Rattle.sheet.specs.Steps.{enough, afterwards, flow_asks, instruction_asks, step_asks};
 ghost use Rattle.sheet.specs.Questions.{step_at};
 
-use crate::follow::{After, judge_return, judge_ways};
+use crate::follow::After;
 use crate::layout::Layout;
 use crate::lead::{end_at, flow_at};
+use crate::visit::Visit;
 use instruction::{Flow, Instruction};
-use records::{Chain, Entry, Row, read_record};
+use records::{Chain, Entry, Row};
 use refusal::{Question, Refusal, ask};
 
 // Do the depths cover what the instruction needs?
+#[tactic(auto, unfolding(crate::specs::Steps::enough))]
 fn has_enough(row: Row, instruction: &Instruction) -> bool
     ensures { result ≡ enough row instruction.now }
 {
     instruction.family.needs <= row.depth && instruction.own_takes() <= row.returns
 }
 
-impl Layout<'_> {
-    // What the instruction of a row leaves.
-    fn left_after(&self, before: Option<Row>, row: Row, instruction: &Instruction) -> After
-        requires { primed (routine self.now.candidate) row ≡ word_from (routine self.now.candidate) row before }
-        ensures value { result ≡ afterwards (routine self.now.candidate) row instruction.now }
-        ensures few { (result.depth < 1024) × (result.returns < 1024) }
+impl Visit<'_, '_> {
+    // What the instruction of the row leaves.
+    fn left_after(&self, instruction: &Instruction) -> After
+        ensures { result ≡ afterwards (routine self.now.layout.now.candidate) self.now.row instruction.now }
     {
-        let family = instruction.family;
+        let family = &instruction.family;
+        let depth = self.row.depth.saturating_sub(family.needs);
+        let returns = self.row.returns.saturating_sub(instruction.own_takes());
         After {
-            depth: row.depth.saturating_sub(family.needs) as usize + family.leaves as usize,
-            returns: row.returns.saturating_sub(instruction.own_takes()) as usize
-                + instruction.own_gives() as usize,
+            depth: u16::from(depth) + u16::from(family.leaves),
+            returns: u16::from(returns) + u16::from(instruction.own_gives()),
             count: family.cycles,
             worst: 0,
-            known: self.known_after(before, row, instruction),
+            known: self.known_after(instruction),
         }
     }
 
     // Asks of the rows where control goes on.
-    fn judge_flow(
-        &self,
-        fitted: &[Entry],
-        place: u8,
-        row: Row,
-        after: After,
-        back: u16,
-        flow: Flow,
-    ) -> Result<(), Refusal>
-        requires laid { Laid self.now }
-        requires depth_bound { (after.depth < 1024) × (after.returns < 1024) }
-        ensures { verdict_of result ≡ first_no (flow_asks (routine self.now.candidate) (digests_of fitted.now) place row after back flow) }
+    #[tactic(auto, unfolding(crate::specs::Steps::flow_asks))]
+    fn judge_flow(&self, after: After, back: u16, flow: Flow) -> Result<(), Refusal>
+        ensures { verdict_of result ≡ first_no (flow_asks (routine self.now.layout.now.candidate) (digests_of self.now.fitted.now) self.now.place self.now.row after back flow) }
     {
         match flow {
             Flow::Goes(one, other) => {
-                judge_ways(
-                    place,
-                    row.cycles,
-                    after,
-                    self.row_at(one),
-                    self.row_at(other),
-                )
+                let followers = [self.layout.row_at(one), self.layout.row_at(other)];
+                self.judge_ways(after, &followers)
             }
-            Flow::Calls(target) => self.judge_call(fitted, place, row, after, target, back),
-            Flow::Returns => judge_return(&self.candidate, place, row, after),
+            Flow::Calls(target) => self.judge_call(after, target, back),
+            Flow::Returns => self.judge_return(after),
         }
     }
 
-    // Asks of the instruction of a row: what it needs, what it reads or writes, and where control goes on.
-    fn judge_instruction(
-        &self,
-        fitted: &[Entry],
-        place: u8,
-        before: Option<Row>,
-        row: Row,
-        instruction: &Instruction,
-    ) -> Result<(), Refusal>
-        requires laid { Laid self.now }
-        requires row_value { primed (routine self.now.candidate) row ≡ word_from (routine self.now.candidate) row before }
-        ensures { verdict_of result ≡ first_no (instruction_asks (routine self.now.candidate) (digests_of fitted.now) place row (Some instruction.now)) }
+    // Asks of the instruction: what it needs, what it reads or writes, and where control goes on.
+    fn judge_instruction(&self, instruction: &Instruction) -> Result<(), Refusal>
+        ensures { verdict_of result ≡ first_no (instruction_asks (routine self.now.layout.now.candidate) (digests_of self.now.fitted.now) self.now.place self.now.row (Some instruction.now)) }
     {
-        ask(
-            Question::RowShort,
-            place as usize,
-            has_enough(row, instruction),
-        )?;
-        let allowed = self.is_allowed(row, instruction);
-        ask(Question::OutsideWindows, place as usize, allowed)?;
-        let origin = self.candidate.head.origin;
-        let after = self.left_after(before, row, instruction);
-        let back = end_at(instruction, origin, row.offset);
-        let flow = flow_at(instruction, origin, row.offset);
-        self.judge_flow(fitted, place, row, after, back, flow)
+        let place = usize::from(self.place);
+        let enough = has_enough(self.row, instruction);
+        ask(Question::RowShort, place, enough)?;
+        let allowed = self.layout.is_allowed(self.row, instruction);
+        ask(Question::OutsideWindows, place, allowed)?;
+        let origin = self.layout.candidate.head.origin;
+        let after = self.left_after(instruction);
+        let back = end_at(instruction, origin, self.row.offset);
+        let flow = flow_at(instruction, origin, self.row.offset);
+        self.judge_flow(after, back, flow)
     }
 
-    // Asks of a row, which stands at an index.
-    fn judge_row(
-        &self,
-        fitted: &[Entry],
-        place: u8,
-        before: Option<Row>,
-        row: Row,
-    ) -> Result<(), Refusal>
-        requires laid { Laid self.now }
-        requires row_value { primed (routine self.now.candidate) row ≡ word_from (routine self.now.candidate) row before }
-        ensures { verdict_of result ≡ first_no (step_asks (routine self.now.candidate) (digests_of fitted.now) place row) }
+    // Asks of the row.
+    #[tactic(auto, unfolding(crate::specs::Steps::step_asks))]
+    fn judge(&self) -> Result<(), Refusal>
+        ensures { verdict_of result ≡ first_no (step_asks (routine self.now.layout.now.candidate) (digests_of self.now.fitted.now) self.now.place self.now.row) }
     {
-        match self.candidate.instruction(row) {
-            None => Err(Refusal {
-                question: Question::RowInstruction,
-                place: place as usize,
-            }),
-            Some(instruction) => {
-                self.judge_instruction(fitted, place, before, row, &instruction)
-            }
-        }
+        let missing = self.refusal(Question::RowInstruction);
+        let instruction = self.layout.candidate.instruction(self.row).ok_or(missing)?;
+        self.judge_instruction(&instruction)
     }
+}
 
+impl Layout<'_> {
     // Asks of each row in the order of the chain.
-    pub(crate) fn judge_rows(&self, fitted: &[Entry]) -> Result<(), Refusal>
-        requires { Laid self.now }
+    pub(crate) fn judge_rows<'v>(&'v self, fitted: &'v [Entry]) -> Result<(), Refusal>
         ensures { verdict_of result ≡ first_no (each (step_at (routine self.now.candidate) (digests_of fitted.now) self.now.candidate.sheet.now) (chain self.now.candidate.sheet.now self.now.candidate.head.rows)) }
     {
-        let sheet = self.candidate.sheet;
-        let mut rows = Chain::new(sheet, self.candidate.head.rows);
+        let links = Chain::new(self.candidate.sheet, self.candidate.head.rows);
+        // Carried by hand: a fold would wrap the way out at a refusal.
         let mut before = None;
-        while let Some(link) = rows.next() {
-            let row = read_record::<Row>(sheet, link.index);
-            self.judge_row(fitted, link.index, before, row)?;
+        for (link, row) in links.zip(self.candidate.rows()) {
+            let visit = Visit {
+                layout: self,
+                fitted,
+                place: link.index,
+                before,
+                row,
+            };
+            visit.judge()?;
             before = Some(row);
         }
         Ok(())

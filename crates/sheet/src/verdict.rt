@@ -11,10 +11,11 @@ ghost use Rattle.sheet.specs.Laws.{KeepsCalls, PrimedByTheRowBefore};
 use crate::layout::Layout;
 use board::Board;
 use machine::Settings;
-use records::{Candidate, Entry, Head, Record, Scene, is_whole, read_record, walk};
+use records::{Candidate, Entry, Head, Record, Row, Scene, Window, is_whole, read_record, walk};
 use refusal::{Question, Refusal, ask};
 
 // Asks of the rows, and then of each with what follows it.
+#[tactic(auto, using(crate::proofs::Accepted::in_order), unfolding(crate::specs::Questions::rows_asked))]
 fn judge_rows<'a, B: Board>(scene: &Scene<'a, B>) -> Result<Entry, Refusal>
     requires { (sized_as (routine scene.now.candidate) ≡ true) × (length (digests_of scene.now.fitted.now) < 32) }
     ensures verdict { verdict_of result ≡ first_no (rows_asked (ground B.Board.meaning scene.now) scene.now.candidate.head scene.now.candidate.sheet.now) }
@@ -25,16 +26,18 @@ fn judge_rows<'a, B: Board>(scene: &Scene<'a, B>) -> Result<Entry, Refusal>
     let candidate = scene.candidate;
     let head = candidate.head;
     ask(Question::RowIndex, 0, head.rows != 0)?;
-    walk::<B, records::Row>(scene, head.rows)?;
-    let first = read_record::<records::Row>(candidate.sheet, head.rows);
+    walk::<B, Row>(scene, head.rows)?;
+    let first = read_record::<Row>(candidate.sheet, head.rows);
     let starts = candidate.starts_well(first);
-    ask(Question::FirstRow, head.rows as usize, starts)?;
+    ask(Question::FirstRow, usize::from(head.rows), starts)?;
     let layout = Layout::new(candidate);
     layout.judge_rows(scene.fitted)?;
     Ok(layout.entry())
 }
 
-// Whether a sheet is fitted: the entry to keep, or the first question that is answered no.
+// Whether a sheet is fitted: the entry to keep, or the first question that is answered no. (Five parameters, as a node holds them
+// apart; inside they are one scene.)
+#[tactic(auto, using(crate::proofs::Accepted::in_order), unfolding(crate::specs::Questions::windows_asked))]
 pub fn examine<'a, B: Board>(
     settings: &'a Settings,
     fitted: &'a [Entry],
@@ -58,6 +61,6 @@ pub fn examine<'a, B: Board>(
         candidate,
     };
     scene.judge_head()?;
-    walk::<B, records::Window>(&scene, head.windows)?;
+    walk::<B, Window>(&scene, head.windows)?;
     judge_rows(&scene)
 }

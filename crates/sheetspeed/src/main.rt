@@ -2,7 +2,6 @@
 // printed too; without it a few are done, and what is printed is the same on every machine.
 #![tactic(auto)]
 
-use anyhow::anyhow;
 use board::Cells;
 use fitting::{cells, settings, split};
 use machine::Settings;
@@ -10,30 +9,16 @@ use sheet::examine;
 use std::env;
 use std::io::Read;
 use std::time::Instant;
-use text::decimal;
+use text::count_argument;
 
 // So many examinations: how many of them accept, and the worst cycles of those together, modulo 2^32.
+// (It takes what `examine` takes.)
 fn spin(settings: &Settings, board: &Cells, code: &[u8], sheet: &[u8], times: u32) -> (u32, u32) {
-    let mut fitted: u32 = 0;
-    let mut worst: u32 = 0;
-    for _ in 0..times {
-        if let Ok(entry) = examine(settings, &[], board, code, sheet) {
-            fitted = fitted.wrapping_add(1);
-            worst = worst.wrapping_add(entry.worst);
-        }
-    }
-    (fitted, worst)
-}
-
-// The number of examinations that the first argument asks for.
-fn asked(rt: &HostRuntime) -> anyhow::Result<Option<u32>> {
-    for argument in env::args(rt)?.skip(1) {
-        return match decimal(argument.as_bytes()) {
-            Some(times) => Ok(Some(times)),
-            None => Err(anyhow!("the argument is a number of examinations")),
-        };
-    }
-    Ok(None)
+    (0..times)
+        .filter_map(|_| examine(settings, &[], board, code, sheet).ok())
+        .fold((0u32, 0u32), |(fitted, worst), entry| {
+            (fitted.wrapping_add(1), worst.wrapping_add(entry.worst))
+        })
 }
 
 fn main(rt: HostRuntime) -> anyhow::Result<()> {
@@ -42,12 +27,13 @@ fn main(rt: HostRuntime) -> anyhow::Result<()> {
     let (code, sheet) = split(input.as_slice());
     let settings = settings();
     let board = cells();
-    let asked = asked(&rt)?;
+    let asked = count_argument(env::args(&rt)?.nth(1), "examinations")?;
     let times = asked.unwrap_or(100);
     let start = Instant::now(&rt)?;
     let (fitted, worst) = spin(&settings, &board, code, sheet, times);
     let nanoseconds = start.elapsed(&rt)?.as_nanos();
     print!(rt; "{times} examinations, {fitted} fitted, worst {worst}")?;
+    // In two pieces, as the time is no part of what is compared.
     if asked.is_some() {
         print!(rt; ", {nanoseconds} ns")?;
     }

@@ -2,13 +2,12 @@
 // thousand steps are done, and what is printed is the same on every machine.
 #![tactic(auto)]
 
-use anyhow::anyhow;
 use board::{Board, Cells, Ports, Split};
-use machine::{Machine, Settings};
-use std::alloc::{AllocError, Global};
+use machine::{Code, Machine, Settings};
+use std::alloc::Global;
 use std::env;
 use std::time::Instant;
-use text::decimal;
+use text::count_argument;
 
 const FIRST: u16 = 0x4000;
 
@@ -23,77 +22,65 @@ const LOOP: &[u8; 36] = b"\
     \xb7\xc0\x00\x98\x00\x50\xa4\xd8\x01\xf7\xc0\x04\x88\x3f\xa4\xc8\x72\xee\
     \x81\x40\x82\x9c\xe4\xe4\x80\x41\x3d\x20\x71\xdc";
 
-fn straight(heap: Global) -> Result<Vec<u8>, AllocError> {
-    let mut code = Vec::new(heap);
-    for _ in 0..64 {
-        code.extend_from_slice(BLOCK)?;
+// Cells below h'8000, and a port of each kind above.
+fn board(heap: Global) -> Split<Cells, Ports> {
+    Split {
+        lower: Cells::new(0x5000, 512).unwrap(),
+        upper: Ports::new(&[0xC000], &[0xC004], Vec::new(heap)).unwrap(),
+        boundary: 0x8000,
     }
-    Ok(code)
 }
 
-// So many steps; where no instruction is left, it begins again.
-fn spin<B: Board>(settings: &Settings, code: &[u8], steps: u32, board: &mut B) -> Machine {
+// So many steps; where no instruction is left, it begins again. It is not inlined, so that no change around it changes the loop.
+#[inline(never)]
+fn spin<B: Board>(settings: &Settings, bytes: &[u8], steps: u32, board: &mut B) -> Machine {
+    let code = Code {
+        bytes,
+        first: FIRST,
+    };
     let mut machine = Machine::new(FIRST);
     for _ in 0..steps {
-        if machine.step(settings, code, FIRST, board).is_err() {
+        if machine.step(settings, code, board).is_err() {
             machine.ip = FIRST;
         }
     }
     machine
 }
 
-// Steps the code, and prints what it came to and, if asked, how long it took.
-fn measure(
-    rt: &HostRuntime,
-    name: &str,
-    settings: &Settings,
-    code: &[u8],
-    steps: u32,
-    timed: bool,
-) -> anyhow::Result<()> {
-    let Ok(lower) = Cells::new(0x5000, 512) else {
-        return Err(anyhow!("cells"));
-    };
-    let Ok(upper) = Ports::new(&[0xC000], &[0xC004], Vec::new(rt.alloc())) else {
-        return Err(anyhow!("ports"));
-    };
-    let mut board = Split {
-        lower,
-        upper,
-        boundary: 0x8000,
-    };
-    let start = Instant::now(rt)?;
-    let machine = spin(settings, code, steps, &mut board);
-    let nanoseconds = start.elapsed(rt)?.as_nanos();
-    let cycles = machine.cycles;
-    let ip = machine.ip;
-    print!(rt; "{name}: {steps} steps, {cycles} cycles, at {ip:04X}")?;
-    if timed {
-        print!(rt; ", {nanoseconds} ns")?;
-    }
-    println!(rt; "")?;
-    Ok(())
+// The settings of each run, and the number of its steps where one was asked for.
+#[derive(Clone, Copy)]
+struct Benchmark {
+    settings: Settings,
+    asked: Option<u32>,
 }
 
-// The number of steps that the first argument asks for.
-fn asked(rt: &HostRuntime) -> anyhow::Result<Option<u32>> {
-    for argument in env::args(rt)?.skip(1) {
-        return match decimal(argument.as_bytes()) {
-            Some(steps) => Ok(Some(steps)),
-            None => Err(anyhow!("the argument is a number of steps")),
-        };
+impl Benchmark {
+    // Steps the code, and prints what it came to and, if a number of steps was asked for, how long it took.
+    fn measure(&self, rt: &HostRuntime, name: &str, code: &[u8]) -> anyhow::Result<()> {
+        let mut board = board(rt.alloc());
+        let steps = self.asked.unwrap_or(4000);
+        let start = Instant::now(rt)?;
+        let machine = spin(&self.settings, code, steps, &mut board);
+        let nanoseconds = start.elapsed(rt)?.as_nanos();
+        let cycles = machine.cycles;
+        let ip = machine.ip;
+        print!(rt; "{name}: {steps} steps, {cycles} cycles, at {ip:04X}")?;
+        // In two pieces, as the time is no part of what is compared.
+        if self.asked.is_some() {
+            print!(rt; ", {nanoseconds} ns")?;
+        }
+        println!(rt; "")?;
+        Ok(())
     }
-    Ok(None)
 }
 
 fn main(rt: HostRuntime) -> anyhow::Result<()> {
-    let Ok(settings) = Settings::new(0xE000, 0x4000, 0x4FFF, 64, 32, 0) else {
-        return Err(anyhow!("settings"));
+    // The benchmark's own settings, written here so that it needs none of the crates of claim sheets.
+    let benchmark = Benchmark {
+        settings: Settings::new(0xE000, 0x4000, 0x4FFF, 64, 32, 0).unwrap(),
+        asked: count_argument(env::args(&rt)?.nth(1), "steps")?,
     };
-    let asked = asked(&rt)?;
-    let steps = asked.unwrap_or(4000);
-    let timed = asked.is_some();
-    let code = straight(rt.alloc())?;
-    measure(&rt, "straight", &settings, code.as_slice(), steps, timed)?;
-    measure(&rt, "branches", &settings, LOOP, steps, timed)
+    let straight = BLOCK.as_slice().repeat(rt.alloc(), 64)?;
+    benchmark.measure(&rt, "straight", straight.as_slice())?;
+    benchmark.measure(&rt, "branches", LOOP)
 }

@@ -2,10 +2,11 @@
 use instruction::{Family, Instruction, Kind, Op, Operand};
 use std::fmt;
 
-// How the operand of a family is written.
+// What follows the mnemonic of a family.
 #[derive(Clone, Copy)]
 enum Syntax {
     Bare,
+    Return,
     Top,
     Next,
     ReturnTop,
@@ -32,15 +33,6 @@ fn operation(op: Op) -> &'static str {
     }
 }
 
-fn returning(op: Op) -> &'static str {
-    match op {
-        Op::Add => "ADD_R",
-        Op::And => "AND_R",
-        Op::Or => "OR_R",
-        Op::Xor => "XOR_R",
-    }
-}
-
 fn written(kind: Kind) -> (&'static str, Syntax) {
     match kind {
         Kind::Not => ("NOT", Syntax::Bare),
@@ -49,7 +41,7 @@ fn written(kind: Kind) -> (&'static str, Syntax) {
         Kind::Binary(op) => (operation(op), Syntax::Bare),
         Kind::AddCarry => ("ADC", Syntax::Bare),
         Kind::Immediate(op) => (operation(op), Syntax::Byte),
-        Kind::BinaryReturn(op) => (returning(op), Syntax::Bare),
+        Kind::BinaryReturn(op) => (operation(op), Syntax::Return),
         Kind::PushShort => ("PUSHS", Syntax::Short),
         Kind::PushByte => ("PUSH", Syntax::Byte),
         Kind::PushWord => ("PUSHD", Syntax::Word),
@@ -101,6 +93,75 @@ impl fmt::Display for Encoding<'_> {
     }
 }
 
+// What stands at a place of an operand: a letter in a pattern, a value in an instruction.
+#[derive(Clone, Copy)]
+enum Place {
+    Letter(&'static str),
+    Byte(u8),
+    Word(u16),
+    Number(u16),
+    Pointer(u8),
+    Distance(i16),
+}
+
+impl fmt::Display for Place {
+    fn fmt<W: fmt::Write>(&self, f: &mut fmt::Formatter<W>) -> fmt::Result {
+        match *self {
+            Place::Letter(letter) => write!(f, "{letter}"),
+            Place::Byte(byte) => write!(f, "{byte:02X}"),
+            Place::Word(word) => write!(f, "{word:04X}"),
+            Place::Number(number) => write!(f, "{number}"),
+            Place::Pointer(number) => write!(f, "P{number}"),
+            Place::Distance(distance) => write!(f, "{distance:+}"),
+        }
+    }
+}
+
+// A mnemonic and what follows it.
+#[derive(Clone, Copy)]
+struct Line {
+    mnemonic: &'static str,
+    syntax: Syntax,
+    byte: Place,
+    word: Place,
+    number: Place,
+    register: Place,
+    pointer: Place,
+    distance: Place,
+}
+
+impl fmt::Display for Line {
+    fn fmt<W: fmt::Write>(&self, f: &mut fmt::Formatter<W>) -> fmt::Result {
+        let Line {
+            mnemonic,
+            syntax,
+            byte,
+            word,
+            number,
+            register,
+            pointer,
+            distance,
+        } = self;
+        match syntax {
+            Syntax::Bare => write!(f, "{mnemonic}"),
+            Syntax::Return => write!(f, "{mnemonic}_R"),
+            Syntax::Top => write!(f, "{mnemonic} TOS"),
+            Syntax::Next => write!(f, "{mnemonic} NEXT"),
+            Syntax::ReturnTop => write!(f, "{mnemonic} [RSP]"),
+            Syntax::Byte => write!(f, "{mnemonic} #{byte}"),
+            Syntax::Word => write!(f, "{mnemonic} #{word}"),
+            Syntax::Number(_) | Syntax::Short => write!(f, "{mnemonic} #{number}"),
+            Syntax::Register => write!(f, "{mnemonic} !{register}"),
+            Syntax::Pointer => write!(f, "{mnemonic} [{pointer}]"),
+            Syntax::Absolute => write!(f, "{mnemonic} {word}"),
+            Syntax::Relative => write!(f, "{mnemonic} [{pointer}][{byte}]"),
+            Syntax::Indexed => write!(f, "{mnemonic} [{pointer}][TOS]"),
+            Syntax::Deep(_) => write!(f, "{mnemonic} [DSP][-{number}]"),
+            Syntax::LongJump | Syntax::ShortJump => write!(f, "{mnemonic} *{distance}"),
+        }
+    }
+}
+
 // A family, with its operand by letters: n a byte, w two, k a number, r a register, p a pointer, m a distance.
 #[derive(Clone, Copy)]
 pub struct Pattern<'a>(pub &'a Family);
@@ -108,25 +169,17 @@ pub struct Pattern<'a>(pub &'a Family);
 impl fmt::Display for Pattern<'_> {
     fn fmt<W: fmt::Write>(&self, f: &mut fmt::Formatter<W>) -> fmt::Result {
         let (mnemonic, syntax) = written(self.0.kind);
-        let operand = match syntax {
-            Syntax::Bare => "",
-            Syntax::Top => " TOS",
-            Syntax::Next => " NEXT",
-            Syntax::ReturnTop => " [RSP]",
-            Syntax::Byte => " #n",
-            Syntax::Word => " #w",
-            Syntax::Number(_) => " #k",
-            Syntax::Short => " #k",
-            Syntax::Register => " !r",
-            Syntax::Pointer => " [p]",
-            Syntax::Absolute => " w",
-            Syntax::Relative => " [p][n]",
-            Syntax::Indexed => " [p][TOS]",
-            Syntax::Deep(_) => " [DSP][-k]",
-            Syntax::LongJump => " *+m",
-            Syntax::ShortJump => " *+m",
+        let line = Line {
+            mnemonic,
+            syntax,
+            byte: Place::Letter("n"),
+            word: Place::Letter("w"),
+            number: Place::Letter("k"),
+            register: Place::Letter("r"),
+            pointer: Place::Letter("p"),
+            distance: Place::Letter("+m"),
         };
-        write!(f, "{mnemonic}{operand}")
+        write!(f, "{line}")
     }
 }
 
@@ -139,37 +192,22 @@ impl fmt::Display for Disassembly<'_> {
         let (mnemonic, syntax) = written(self.0.family.kind);
         let number = self.0.number;
         let byte = self.0.operand.byte();
-        let word = self.0.operand.word();
-        match syntax {
-            Syntax::Bare => write!(f, "{mnemonic}"),
-            Syntax::Top => write!(f, "{mnemonic} TOS"),
-            Syntax::Next => write!(f, "{mnemonic} NEXT"),
-            Syntax::ReturnTop => write!(f, "{mnemonic} [RSP]"),
-            Syntax::Byte => write!(f, "{mnemonic} #{byte:02X}"),
-            Syntax::Word => write!(f, "{mnemonic} #{word:04X}"),
-            Syntax::Number(k) => write!(f, "{mnemonic} #{k}"),
-            Syntax::Short => write!(f, "{mnemonic} #{number}"),
-            Syntax::Register => {
-                let register = number as u16 + 8;
-                write!(f, "{mnemonic} !{register}")
-            }
-            Syntax::Pointer => write!(f, "{mnemonic} [P{number}]"),
-            Syntax::Absolute => write!(f, "{mnemonic} {word:04X}"),
-            Syntax::Relative => write!(f, "{mnemonic} [P{number}][{byte:02X}]"),
-            Syntax::Indexed => write!(f, "{mnemonic} [P{number}][TOS]"),
-            Syntax::Deep(k) => write!(f, "{mnemonic} [DSP][-{k}]"),
-            Syntax::LongJump => {
-                let distance = if byte < 128 {
-                    byte as i16 + 2
-                } else {
-                    byte as i16 - 254
-                };
-                write!(f, "{mnemonic} *{distance:+}")
-            }
-            Syntax::ShortJump => {
-                let distance = number as u16 + 1;
-                write!(f, "{mnemonic} *+{distance}")
-            }
-        }
+        let line = Line {
+            mnemonic,
+            syntax,
+            byte: Place::Byte(byte),
+            word: Place::Word(self.0.operand.word()),
+            number: match syntax {
+                Syntax::Number(k) | Syntax::Deep(k) => Place::Number(u16::from(k)),
+                _ => Place::Number(u16::from(number)),
+            },
+            register: Place::Number(u16::from(number) + 8),
+            pointer: Place::Pointer(number),
+            distance: match syntax {
+                Syntax::LongJump => Place::Distance(i16::from(byte.cast_signed()) + 2),
+                _ => Place::Distance(i16::from(number) + 1),
+            },
+        };
+        write!(f, "{line}")
     }
 }

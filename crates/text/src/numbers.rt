@@ -1,74 +1,64 @@
 // Numbers in text. Hexadecimal digits may be of either case, and no sign is read.
-ghost use Rattle.std.specs.Prelude.{◌≡◌, ◌<◌, IfSome};
-ghost use Rattle.text.specs.Numbers.{digit};
+ghost use Rattle.std.specs.Prelude.{◌≡◌, ◌<◌, ◌≤◌, ◌^◌, length, SomeIff};
+ghost use Rattle.std.specs.Str.Parse.{IsNumeral, digits_value};
 
 use std::alloc::{AllocError, Global};
+use std::str;
 
-fn digit(byte: u8) -> Option<u8>
-    ensures value { result ≡ digit byte }
-    ensures low { IfSome result (λ d. d < 16) }
+// Digits in a radix, of a number below 2^32.
+#[tactic(auto, using(crate::proofs::Digits::text_of_digits))]
+fn number(text: &[u8], radix: u32) -> Option<u32>
+    requires lower_bound { 2 ≤ radix }
+    requires upper_bound { radix ≤ 36 }
+    ensures { SomeIff result (IsNumeral radix text.now × (digits_value radix text.now < 2 ^ 32)) (digits_value radix text.now) }
 {
-    match byte {
-        b'0'..=b'9' => Some(byte - b'0'),
-        b'A'..=b'F' => Some(byte - b'A' + 10),
-        b'a'..=b'f' => Some(byte - b'a' + 10),
-        _ => None,
+    let digits = str::from_utf8(text).ok()?;
+    if digits.starts_with('+') {
+        return None;
     }
-}
-
-// A byte of two hexadecimal digits.
-fn byte(high: u8, low: u8) -> Option<u8> {
-    let high = digit(high)?;
-    let low = digit(low)?;
-    Some(high * 16 + low)
+    u32::from_str_radix(digits, radix).ok()
 }
 
 // One to four hexadecimal digits.
-pub fn word(text: &[u8]) -> Option<u16> {
-    if text.is_empty() {
+#[tactic(auto, using(crate::proofs::Digits::value_of_four))]
+pub fn word(text: &[u8]) -> Option<u16>
+    ensures { SomeIff result (IsNumeral 16 text.now × (length text.now ≤ 4)) (digits_value 16 text.now) }
+{
+    if text.len() > 4 {
         return None;
     }
-    let mut value = 0u16;
-    for byte in text {
-        value = value.checked_mul(16)?.checked_add(digit(*byte)? as u16)?;
-    }
-    if text.len() <= 4 { Some(value) } else { None }
+    u16::try_from(number(text, 16)?).ok()
 }
 
 // Decimal digits, of a number below 2^32.
-pub fn decimal(text: &[u8]) -> Option<u32> {
-    if text.is_empty() {
-        return None;
-    }
-    let mut value = 0u32;
-    for byte in text {
-        let b'0'..=b'9' = *byte else {
-            return None;
-        };
-        value = value.checked_mul(10)?.checked_add(digit(*byte)? as u32)?;
-    }
-    Some(value)
+pub fn decimal(text: &[u8]) -> Option<u32>
+    ensures { SomeIff result (IsNumeral 10 text.now × (digits_value 10 text.now < 2 ^ 32)) (digits_value 10 text.now) }
+{
+    number(text, 10)
+}
+
+// A byte of two hexadecimal digits.
+#[tactic(auto, using(crate::proofs::Digits::value_of_two))]
+fn byte(pair: &[u8; 2]) -> Option<u8>
+    ensures { SomeIff result (IsNumeral 16 pair.now) (digits_value 16 pair.now) }
+{
+    u8::try_from(number(pair, 16)?).ok()
 }
 
 // Bytes of two hexadecimal digits each, with or without blanks between them.
 pub fn bytes(heap: Global, text: &[u8]) -> Result<Option<Vec<u8>>, AllocError> {
+    // Loops, since a wrong digit and memory that runs out are two answers, and a chain that collects carries one.
     let mut found = Vec::new(heap);
-    let mut pending = None;
-    for next in text {
-        match pending {
-            None if *next == b' ' => (),
-            None => pending = Some(*next),
-            Some(high) => {
-                let Some(byte) = byte(high, *next) else {
-                    return Ok(None);
-                };
-                found.push(byte)?;
-                pending = None;
-            }
+    for digits in text.split(|byte| *byte == b' ') {
+        let (pairs, []) = digits.as_chunks::<2>() else {
+            return Ok(None);
+        };
+        for pair in pairs {
+            let Some(byte) = byte(pair) else {
+                return Ok(None);
+            };
+            found.push(byte)?;
         }
-    }
-    if pending.is_some() {
-        return Ok(None);
     }
     Ok(Some(found))
 }

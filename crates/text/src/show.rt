@@ -1,63 +1,66 @@
 // A machine and its board as text.
+ghost use Rattle.std.specs.Iterator.{IsFinite};
+
 use machine::{Machine, Stack};
 use std::fmt;
+use std::iter::successors;
 
-// A dash stands for nothing.
-fn dash_unless<W: fmt::Write>(any: bool, f: &mut fmt::Formatter<W>) -> fmt::Result {
-    if any { Ok(()) } else { write!(f, "-") }
+// The items, joined by blanks; a dash stands for none.
+fn joined<W: fmt::Write, I: Iterator>(mut items: I, f: &mut fmt::Formatter<W>) -> fmt::Result
+where
+    I::Item: fmt::Display + Drop,
+    requires can { I.can_next items }
+    requires ends { IsFinite (I.remaining items) }
+{
+    let Some(first) = items.next() else {
+        return write!(f, "-");
+    };
+    write!(f, "{first}")?;
+    for item in items {
+        write!(f, " {item}")?;
+    }
+    Ok(())
 }
 
-// Bytes as two hexadecimal digits each, joined by blanks; `-` where there is none.
+// A number in hexadecimal, of at least so many digits.
 #[derive(Clone, Copy)]
-pub struct Bytes<'a>(pub &'a [u8]);
+struct Hex {
+    number: u16,
+    digits: usize,
+}
 
-impl fmt::Display for Bytes<'_> {
+impl fmt::Display for Hex {
     fn fmt<W: fmt::Write>(&self, f: &mut fmt::Formatter<W>) -> fmt::Result {
-        let mut any = false;
-        for byte in self.0 {
-            if any {
-                write!(f, " ")?;
-            }
-            write!(f, "{byte:02X}")?;
-            any = true;
-        }
-        dash_unless(any, f)
+        let Hex { number, digits } = *self;
+        write!(f, "{number:0digits$X}")
     }
 }
 
-// A stack's bytes in the same form, the top one first.
+// Numbers in hexadecimal, of at least so many digits each, joined by blanks; `-` where there is none.
+#[derive(Clone, Copy)]
+pub struct Numbers<'a, N, const DIGITS: usize>(pub &'a [N]);
+
+impl<N: Copy + Into<u16>, const DIGITS: usize> fmt::Display for Numbers<'_, N, DIGITS> {
+    fn fmt<W: fmt::Write>(&self, f: &mut fmt::Formatter<W>) -> fmt::Result {
+        let numbers = self.0.iter().map(|number| Hex {
+            number: (*number).into(),
+            digits: DIGITS,
+        });
+        joined(numbers, f)
+    }
+}
+
+// A stack's bytes in the same form, of two digits each, the top one first.
 #[derive(Clone, Copy)]
 pub struct TopFirst<'a>(pub &'a Stack);
 
 impl fmt::Display for TopFirst<'_> {
     fn fmt<W: fmt::Write>(&self, f: &mut fmt::Formatter<W>) -> fmt::Result {
-        let mut any = false;
-        for byte in self.0.as_slice().iter().rev() {
-            if any {
-                write!(f, " ")?;
-            }
-            write!(f, "{byte:02X}")?;
-            any = true;
-        }
-        dash_unless(any, f)
-    }
-}
-
-// Words as four digits each, in the same form.
-#[derive(Clone, Copy)]
-pub struct Words<'a>(pub &'a [u16]);
-
-impl fmt::Display for Words<'_> {
-    fn fmt<W: fmt::Write>(&self, f: &mut fmt::Formatter<W>) -> fmt::Result {
-        let mut any = false;
-        for word in self.0 {
-            if any {
-                write!(f, " ")?;
-            }
-            write!(f, "{word:04X}")?;
-            any = true;
-        }
-        dash_unless(any, f)
+        let bytes = self.0.as_slice().iter().rev().map(|byte| Hex {
+            number: u16::from(*byte),
+            digits: 2,
+        });
+        joined(bytes, f)
     }
 }
 
@@ -69,7 +72,7 @@ impl fmt::Display for Progress<'_> {
     fn fmt<W: fmt::Write>(&self, f: &mut fmt::Formatter<W>) -> fmt::Result {
         let stack = TopFirst(&self.0.stack);
         let returns = TopFirst(&self.0.returns);
-        let carry = self.0.carry as u8;
+        let carry = u8::from(self.0.carry);
         let cycles = self.0.cycles;
         write!(
             f,
@@ -87,8 +90,7 @@ pub struct Cell {
 
 impl fmt::Display for Cell {
     fn fmt<W: fmt::Write>(&self, f: &mut fmt::Formatter<W>) -> fmt::Result {
-        let at = self.at;
-        let byte = self.byte;
+        let Cell { at, byte } = self;
         write!(f, "{at:04X}={byte:02X}")
     }
 }
@@ -102,19 +104,12 @@ pub struct NonzeroCells<'a> {
 
 impl fmt::Display for NonzeroCells<'_> {
     fn fmt<W: fmt::Write>(&self, f: &mut fmt::Formatter<W>) -> fmt::Result {
-        let mut at = self.first;
-        let mut any = false;
-        for byte in self.bytes {
-            if *byte != 0 {
-                if any {
-                    write!(f, " ")?;
-                }
-                let cell = Cell { at, byte: *byte };
-                write!(f, "{cell}")?;
-                any = true;
-            }
-            at = at.wrapping_add(1);
-        }
-        dash_unless(any, f)
+        let cells = self
+            .bytes
+            .iter()
+            .zip(successors(Some(self.first), |at| Some(at.wrapping_add(1))))
+            .map(|(byte, at)| Cell { at, byte: *byte })
+            .filter(|cell| cell.byte != 0);
+        joined(cells, f)
     }
 }

@@ -2,6 +2,7 @@
 use std::alloc::{AllocError, Global};
 use std::fmt;
 use text::{bytes, decimal, word};
+use thiserror::Error;
 
 #[derive(Drop)]
 pub struct Job {
@@ -11,60 +12,57 @@ pub struct Job {
     pub steps: u32,
 }
 
-// A line that cannot be read, and what it should have been.
-#[derive(Clone, Copy)]
-pub struct BadLine {
-    number: u8,
-    wanted: &'static str,
+// The lines of a job, and what stands after them.
+#[derive(Clone, Copy, Debug)]
+pub enum Line {
+    First,
+    Code,
+    Samples,
+    Steps,
+    Rest,
 }
 
-impl fmt::Display for BadLine {
+// A line that cannot be read, with its number and what it should have been. (By hand, so that the words that all begin with stand
+// once.)
+impl fmt::Display for Line {
     fn fmt<W: fmt::Write>(&self, f: &mut fmt::Formatter<W>) -> fmt::Result {
-        let number = self.number;
-        let wanted = self.wanted;
+        let (number, wanted) = match self {
+            Line::First => (1, "a first address of one to four hexadecimal digits"),
+            Line::Code => (2, "a code of bytes with two hexadecimal digits each"),
+            Line::Samples => (3, "samples of bytes with two hexadecimal digits each"),
+            Line::Steps => (4, "a greatest number of steps, in decimal, below 2^32"),
+            Line::Rest => (5, "nothing more"),
+        };
         write!(f, "bad input: line {number}: {wanted}")
     }
 }
 
-// The first line of a text, without blanks around it, and the text after it.
-fn split_line(text: &[u8]) -> (&[u8], &[u8]) {
-    for (i, byte) in text.iter().enumerate() {
-        if *byte == b'\n' {
-            return (text[0..i].trim_ascii(), &text[i + 1..]);
-        }
-    }
-    (text.trim_ascii(), &text[text.len()..])
+// Why there is no job.
+#[derive(Clone, Copy, Debug, Error)]
+pub enum NoJob {
+    #[error("{0}")]
+    Bad(#[from] Line),
+    #[error("no memory is left")]
+    OutOfMemory(#[from] AllocError),
 }
 
-// Reads the four lines. A missing line is an empty one.
-pub fn read(heap: Global, text: &[u8]) -> Result<Result<Job, BadLine>, AllocError> {
-    let (line, rest) = split_line(text);
-    let Some(first) = word(line) else {
-        return Ok(bad(1, "a first address of one to four hexadecimal digits"));
-    };
-    let (line, rest) = split_line(rest);
-    let Some(code) = bytes(heap, line)? else {
-        return Ok(bad(2, "a code of bytes with two hexadecimal digits each"));
-    };
-    let (line, rest) = split_line(rest);
-    let Some(samples) = bytes(heap, line)? else {
-        return Ok(bad(3, "samples of bytes with two hexadecimal digits each"));
-    };
-    let (line, rest) = split_line(rest);
-    let Some(steps) = decimal(line) else {
-        return Ok(bad(4, "a greatest number of steps, in decimal, below 2^32"));
-    };
-    if !rest.trim_ascii().is_empty() {
-        return Ok(bad(5, "nothing more"));
+// Reads the four lines, without the blanks around each. A missing line is an empty one.
+pub fn read(heap: Global, text: &[u8]) -> Result<Job, NoJob> {
+    let mut lines = text
+        .splitn(5, |byte| *byte == b'\n')
+        .map(|line| line.trim_ascii());
+    let mut line = || lines.next().unwrap_or_default();
+    let first = word(line()).ok_or(Line::First)?;
+    let code = bytes(heap, line())?.ok_or(Line::Code)?;
+    let samples = bytes(heap, line())?.ok_or(Line::Samples)?;
+    let steps = decimal(line()).ok_or(Line::Steps)?;
+    if !line().is_empty() {
+        return Err(NoJob::Bad(Line::Rest));
     }
-    Ok(Ok(Job {
+    Ok(Job {
         first,
         code,
         samples,
         steps,
-    }))
-}
-
-fn bad(number: u8, wanted: &'static str) -> Result<Job, BadLine> {
-    Err(BadLine { number, wanted })
+    })
 }

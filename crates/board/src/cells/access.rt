@@ -1,11 +1,22 @@
-ghost use Rattle.std.specs.Prelude.{◌≡◌, ◌<◌, [], ◌∷◌, take, IfOk};
+ghost use Rattle.std.specs.Prelude.{◌≡◌, ◌+◌, ◌-◌, ◌≤◌, [], ◌∷◌, length, replicate, IfOk, if◌then◌else◌, Some, None, is_some};
 ghost use Rattle.refusal.specs.Questions.{verdict_of, first_no, ask as asked};
-ghost use Rattle.board.specs.Cells.{owns, owns_ends, with_byte, cells_meaning, cells_fit, NewCells};
+ghost use Rattle.board.specs.Cells.{owns, owns_ends, cells_meaning, cells_fit, NewCells};
 ghost use Rattle.std.proofs.Common.{rules};
 
 use super::Cells;
 use crate::{Board, Right, denied};
-use refusal::{Question, Refusal};
+use arrayvec::ArrayVec;
+use refusal::{Question, Refusal, ask};
+
+// So many zeros.
+fn zeros(count: u16) -> ArrayVec<u8, 512>
+    requires { count ≤ 512 }
+    ensures { result.items ≡ replicate count 0 }
+{
+    let mut bytes = ArrayVec::from([0; 512]);
+    bytes.truncate(usize::from(count));
+    bytes
+}
 
 impl Cells {
     // So many cells from a first address, all zero.
@@ -13,31 +24,36 @@ impl Cells {
         ensures verdict { verdict_of result ≡ first_no (asked 4 0 (cells_fit first count) ∷ []) }
         ensures made { IfOk result (λ c. NewCells first count c) }
     {
-        if count > 512 || first as u32 + count as u32 > 65536 {
-            return Err(Refusal {
-                question: Question::BoardShape,
-                place: 0,
-            });
-        }
+        let inside = u32::from(first) + u32::from(count) <= 65536;
+        ask(Question::BoardShape, 0, count <= 512 && inside)?;
         Ok(Cells {
             first,
-            count,
-            bytes: [0; 512],
+            bytes: zeros(count),
         })
     }
 
     // The first address, and the bytes from there on.
     pub fn contents(&self) -> (u16, &[u8])
         ensures first { result.0 ≡ self.now.first }
-        ensures bytes { result.1.now ≡ take self.now.count self.now.bytes }
+        ensures bytes { result.1.now ≡ self.now.bytes }
+        ensures few { length result.1.now ≤ 512 }
+        ensures inside { result.0 + length result.1.now ≤ 65536 }
     {
-        (self.first, &self.bytes[0..self.count as usize])
+        (self.first, &self.bytes)
+    }
+
+    // The place of an address among the bytes.
+    fn place(&self, at: u16) -> Option<usize>
+        ensures { result ≡ (if owns self.now at then Some (at - self.now.first) else None) }
+    {
+        let place = usize::from(at.checked_sub(self.first)?);
+        (place < self.bytes.len()).then_some(place)
     }
 
     fn owns(&self, at: u16) -> bool
         ensures { result ≡ owns self.now at }
     {
-        self.first <= at && (at as u32) < self.first as u32 + self.count as u32
+        self.place(at).is_some()
     }
 
     // Whether both ends are cells, where there is an address between them.
@@ -46,13 +62,6 @@ impl Cells {
     {
         first > last || (self.owns(first) && self.owns(last))
     }
-
-    fn set(&mut self, i: usize, byte: u8)
-        requires { i < 512 }
-        ensures { self.new ≡ with_byte self.old i byte }
-    {
-        self.bytes[i] = byte;
-    }
 }
 
 impl Board for Cells {
@@ -60,22 +69,19 @@ impl Board for Cells {
 
     ghost lawful = { Prim.search rules };
 
+    #[tactic(auto, using(crate::proofs::Owned::ends_span))]
     fn may(&self, _right: Right, first: u16, last: u16) -> bool {
         self.owns_ends(first, last)
     }
 
     fn read(&mut self, at: u16) -> Result<u8, Refusal> {
-        if !self.owns(at) {
-            return Err(denied(at));
-        }
-        Ok(self.bytes[(at - self.first) as usize])
+        let place = self.place(at).ok_or(denied(at))?;
+        Ok(self.bytes[place])
     }
 
     fn write(&mut self, at: u16, byte: u8) -> Result<(), Refusal> {
-        if !self.owns(at) {
-            return Err(denied(at));
-        }
-        self.set((at - self.first) as usize, byte);
+        let place = self.place(at).ok_or(denied(at))?;
+        self.bytes[place] = byte;
         Ok(())
     }
 }

@@ -15,16 +15,19 @@ fn page_fits(page: u16) -> bool
 fn area_fits(page: u16, first: u16, last: u16) -> bool
     ensures { result ≡ area_fits page first last }
 {
-    first <= last && last - first < 8192 && (last < page || page as u32 + 256 <= first as u32)
+    first <= last
+        && last - first < 8192
+        && (last < page || u32::from(page) + 256 <= u32::from(first))
 }
 
 fn limits_fit(stack: u16, returns: u16) -> bool
     ensures { result ≡ limits_fit stack returns }
 {
-    1 <= stack && stack <= 255 && 2 <= returns && returns <= 255
+    (1..=255).contains(&stack) && (2..=255).contains(&returns)
 }
 
 impl Settings {
+    // Six numbers and no struct of them, as they come together here alone, and two are wider than the fields they fill.
     // The base page's first address, the code area's first and last, the limits of the data stack and of the return stack,
     // and the fill byte.
     pub fn new(
@@ -41,6 +44,8 @@ impl Settings {
         ask(Question::BasePage, 0, page_fits(page))?;
         ask(Question::CodeArea, 0, area_fits(page, first, last))?;
         ask(Question::StackLimits, 0, limits_fit(stack, returns))?;
+        // The limits fit a byte, as was just asked. A cast that lost a bit would be refused, so this says what `try_from` and
+        // `unwrap` would.
         Ok(Settings {
             page,
             first,

@@ -3,7 +3,7 @@ ghost use Rattle.std.specs.Prelude.{◌≡◌, ◌<◌, length, slice_index};
 ghost use Rattle.records.specs.Records.{record_count, record_at, chain};
 ghost use Rattle.records.specs.Routine.{routine};
 ghost use Rattle.sheet.specs.Steps.{follower};
-ghost use Rattle.sheet.specs.Layouts.{Locates, Read, Laid};
+ghost use Rattle.sheet.specs.Layouts.{Locates, Read};
 
 use super::Layout;
 use records::{Candidate, Chain, Row, read_record};
@@ -14,12 +14,10 @@ fn locate(candidate: &Candidate<'_>) -> [u8; 1024]
     ensures sized { length result ≡ 1024 }
     ensures located { Locates result candidate.now.sheet.now (chain candidate.now.sheet.now candidate.now.head.rows) }
 {
-    let sheet = candidate.sheet;
+    let links = Chain::new(candidate.sheet, candidate.head.rows);
     let mut table = [0; 1024];
-    let mut rows = Chain::new(sheet, candidate.head.rows);
-    while let Some(link) = rows.next() {
-        let row = read_record::<Row>(sheet, link.index);
-        table[row.offset as usize] = link.index;
+    for (link, row) in links.zip(candidate.rows()) {
+        table[usize::from(row.offset)] = link.index;
     }
     table
 }
@@ -27,8 +25,7 @@ fn locate(candidate: &Candidate<'_>) -> [u8; 1024]
 impl<'a> Layout<'a> {
     pub(crate) fn new(candidate: Candidate<'a>) -> Layout<'a>
         requires { Read candidate }
-        ensures candidate { result.candidate ≡ candidate.entry }
-        ensures laid { Laid result }
+        ensures { result.candidate ≡ candidate.entry }
     {
         let table = locate(&candidate);
         Layout { candidate, table }
@@ -40,19 +37,16 @@ impl Layout<'_> {
     fn index_at(&self, offset: u16) -> u8
         ensures { result ≡ slice_index self.now.table offset }
     {
-        match self.table.get(offset as usize) {
-            Some(index) => *index,
-            None => 0,
-        }
+        self.table.get(usize::from(offset)).copied().unwrap_or(0)
     }
 
     // The row that stands at an address.
     pub(crate) fn row_at(&self, address: u16) -> Option<Row>
-        requires { Laid self.now }
         ensures { result ≡ follower (routine self.now.candidate) address }
     {
         let offset = address.checked_sub(self.candidate.head.origin)?;
         let index = self.index_at(offset);
+        // Zero: no row stands there.
         if index == 0 {
             return None;
         }

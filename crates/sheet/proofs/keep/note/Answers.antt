@@ -1,31 +1,16 @@
-use Rattle.std.proofs.Common.{◌≡◌, ℕ, suc, ◌+◌, List, None, Option, sym, ap, ◌∙◌, subst, arith}
-use Rattle.std.proofs.lemmas.List.{set-get_or}
-use Rattle.sheet.specs.Kept.{noted}
-use Rattle.sheet.proofs.Notes.{Passed, passed-more, noted-empty, noted_there, noted_full}
+use Rattle.std.proofs.Common.{◌≡◌, ◌∙◌, sym, rules, tests}
+use Rattle.std.specs.List.{position}
+use Rattle.std.proofs.lemmas.Iterator.{YieldsList-from_slice}
+use Rattle.std.proofs.lemmas.Iterator.Search.{position_from_yields_List}
+use Rattle.sheet.proofs.Notes.{serves, noted_at, noted_nowhere}
+use Rattle.sheet.proofs.keep.note.Goals.{After-position-at}
 use Rattle.sheet.proofs.keep.note.Goals as goal
 
-pub returns-in-None : goal.returns-in-None
-returns-in-None c =
-    noted-empty c.loop-place.places c.loop-place.place-index c.args.origin None (omega arith) c.in-None.is c.loop-place.invariant.1
-    ∙ ap (λ (z : List (Option ℕ)). noted z c.args.origin) c.loop-place.invariant.0
+first : (c : After-position-at) → c.position-at.result ≡ position (serves c.args.origin) c.args.places.now
+first c = position_from_yields_List (serves c.args.origin) _ _ c.position-at.result c.position-at.ensures.ran (YieldsList-from_slice c.args.places.now cc) (λ x b q k. search (rules, tests))
 
-pub returns-then-other-origin : goal.returns-then-other-origin
-returns-then-other-origin c =
-    set-get_or c.loop-place.places c.loop-place.place-index None
-    ∙ noted_there c.loop-place.places c.loop-place.place-index c.args.origin c.in-Some.other None (omega arith) c.in-Some.is c.if-other-origin.true c.loop-place.invariant.1
-    ∙ ap (λ (z : List (Option ℕ)). noted z c.args.origin) c.loop-place.invariant.0
+pub returns-in-Some : goal.returns-in-Some
+returns-in-Some c = noted_at c.args.places.now c.args.origin c.in-Some.at (sym (first (goal.at.returns-in-Some c).After-position-at) ∙ c.in-Some.is)
 
-pub loop-place-preserved : goal.loop-place-preserved
-loop-place-preserved c =
-    let own = set-get_or c.loop-place.places c.loop-place.place-index None in
-    let next : suc c.loop-place.place-index ≡ c.loop-place.place-index + 1 = omega arith in (
-      own ∙ c.loop-place.invariant.0,
-      subst (λ (z : List (Option ℕ)). Passed z (c.loop-place.place-index + 1) c.args.origin) (sym own)
-          (subst (λ (k : ℕ). Passed c.loop-place.places k c.args.origin) next
-          (passed-more c.loop-place.places c.loop-place.place-index c.args.origin c.in-Some.other None (omega arith) c.in-Some.is c.if-other-origin.false c.loop-place.invariant.1)),
-    )
-
-pub returns : goal.returns
-returns c =
-    noted_full c.loop-place.places c.loop-place.place-index c.args.origin (omega arith) c.loop-place.invariant.1
-    ∙ ap (λ (z : List (Option ℕ)). noted z c.args.origin) c.loop-place.invariant.0
+pub returns-in_default : goal.returns-in_default
+returns-in_default c = noted_nowhere c.args.places.now c.args.origin (sym (first (goal.at.returns-in_default c).After-position-at) ∙ c.in_default.is)

@@ -1,7 +1,6 @@
-use Rattle.std.proofs.Common.{sym, refl, ap, ◌∙◌, subst, rules}
+use Rattle.std.proofs.Common.{sym, refl, ap, ◌∙◌, subst}
 use Rattle.refusal.specs.Questions.{first_no}
 use Rattle.records.specs.Lists.{each}
-use Rattle.refusal.proofs.Verdicts.{first_no-++}
 use Rattle.records.specs.Ground.{ground}
 use Rattle.records.specs.declared.scene.Candidate.{Candidate}
 use Rattle.records.specs.declared.entry.Entry.{Entry}
@@ -12,42 +11,21 @@ use Rattle.sheet.specs.Laws.{KeepsCalls}
 use Rattle.sheet.proofs.Called.{keeps_calls}
 use Rattle.sheet.proofs.Accepted.{rows-low}
 use Rattle.sheet.proofs.Before.{primed_law}
-use Rattle.sheet.specs.Questions.{rows_asked, step_at}
+use Rattle.sheet.specs.Questions.{step_at}
 use Rattle.sheet.proofs.verdict.judge_rows.Goals as goal
 
-pub returns-in_err-ask : goal.returns-in_err-ask
-unfolding rows_asked
-returns-in_err-ask g c = search rules
-
-pub returns-in_err-walk : goal.returns-in_err-walk
-unfolding rows_asked
-returns-in_err-walk g c = search (rules, first_no-++)
-
-pub returns-in_err-ask-2 : goal.returns-in_err-ask-2
-unfolding rows_asked
-returns-in_err-ask-2 g c = search (rules, first_no-++)
-
 pub new-layout-requires : goal.new-layout-requires
-new-layout-requires g c =
-    let pass = c.in_ok-walk.ensures.first in
-    record {
-      rising = c.in_ok-walk.ensures.rising;
-      low = rows-low (ground g.B.Board.meaning c.args.scene.now) c.args.scene.now.candidate.sheet.now _ c.requires.0 pass;
-    }
-
-pub returns-in_err-judge_rows : goal.returns-in_err-judge_rows
-unfolding rows_asked
-returns-in_err-judge_rows g c = search (rules, first_no-++)
-
-pub returns : goal.returns
-unfolding rows_asked
-returns g c = record {
-  verdict = search (rules, first_no-++);
-  kept = c.entry.ensures ∙ ap (λ (z : Candidate). entry_of (routine z)) c.new-layout.ensures.candidate;
-  called =
-      let R : Routine = routine c.args.scene.now.candidate in
-      subst (λ (e : Entry). KeepsCalls R e) (sym (c.entry.ensures ∙ ap (λ (z : Candidate). entry_of (routine z)) c.new-layout.ensures.candidate))
-      (keeps_calls R (digests_of c.args.scene.now.fitted.now) c.args.scene.now.candidate.sheet.now (chain c.args.scene.now.candidate.sheet.now c.args.scene.now.candidate.head.rows) refl c.requires.1
-      (c.in_ok-judge_rows.ensures ∙ ap (λ (z : Candidate). first_no (each (step_at (routine z) (digests_of c.args.scene.now.fitted.now) z.sheet.now) (chain z.sheet.now z.head.rows))) c.new-layout.ensures.candidate));
-  primed = primed_law (routine c.args.scene.now.candidate) c.in_ok-walk.ensures.rising;
+new-layout-requires g c = record {
+  rising = c.in_ok-walk.ensures.rising;
+  low = rows-low (ground g.B.Board.meaning c.args.scene.now) c.args.scene.now.candidate.sheet.now _ c.requires.0 c.in_ok-walk.ensures.first;
 }
+
+pub returns-clause-called : goal.returns-clause-called
+returns-clause-called g c =
+    let R : Routine = routine c.args.scene.now.candidate in
+    subst (λ (e : Entry). KeepsCalls R e) (sym (c.entry.ensures ∙ ap (λ (z : Candidate). entry_of (routine z)) c.new-layout.ensures))
+    (keeps_calls R (digests_of c.args.scene.now.fitted.now) c.args.scene.now.candidate.sheet.now (chain c.args.scene.now.candidate.sheet.now c.args.scene.now.candidate.head.rows) refl c.requires.1
+    (c.in_ok-judge_rows.ensures ∙ ap (λ (z : Candidate). first_no (each (step_at (routine z) (digests_of c.args.scene.now.fitted.now) z.sheet.now) (chain z.sheet.now z.head.rows))) c.new-layout.ensures))
+
+pub returns-clause-primed : goal.returns-clause-primed
+returns-clause-primed g c = primed_law (routine c.args.scene.now.candidate) c.in_ok-walk.ensures.rising

@@ -1,0 +1,60 @@
+// The memory cells and the ports that the instructions reach.
+ghost use Rattle.std.specs.Prelude.{◌≡◌, IfNone};
+
+use std::collections::VecDeque;
+
+/// An address that can be written at the ports, and the byte that was last written to it.
+#[derive(Clone, Copy)]
+pub struct Output {
+    pub at: u16,
+    pub latest: u8,
+}
+
+/// The memory cells and the ports.
+#[derive(Drop)]
+pub struct Memory {
+    /// Addresses below this belong to the cells, the others to the ports; at 65536 there are no ports.
+    pub boundary: u32,
+    /// The address of the first cell; the others follow it, modulo 65536.
+    pub first: u16,
+    pub cells: Vec<u8>,
+    /// The addresses that can be read at the ports.
+    pub inputs: Vec<u16>,
+    /// What reads at the ports still get, one byte for each, and zeros after the last.
+    pub samples: VecDeque<u8>,
+    pub outputs: Vec<Output>,
+}
+
+impl Memory {
+    /// The place of `at` among the cells, or nothing where it belongs to the ports.
+    fn place(&self, at: u16) -> Option<usize> {
+        (u32::from(at) < self.boundary).then_some(usize::from(at.wrapping_sub(self.first)))
+    }
+
+    /// The byte at `at`, or nothing, and no change, where it cannot be read.
+    pub fn read(&mut self, at: u16) -> Option<u8>
+        ensures { IfNone result (self.new ≡ self.old) }
+    {
+        if let Some(place) = self.place(at) {
+            self.cells.get(place).copied()
+        } else if self.inputs.contains(&at) {
+            Some(self.samples.pop_front().unwrap_or(0))
+        } else {
+            None
+        }
+    }
+
+    /// Puts `byte` at `at`, or gives nothing, and changes nothing, where that cannot be written.
+    pub fn write(&mut self, at: u16, byte: u8) -> Option<()>
+        ensures { IfNone result (self.new ≡ self.old) }
+    {
+        match self.place(at) {
+            Some(place) => *self.cells.get_mut(place)? = byte,
+            None => {
+                let place = self.outputs.iter().position(|output| output.at == at)?;
+                self.outputs[place].latest = byte;
+            }
+        }
+        Some(())
+    }
+}
