@@ -7,6 +7,7 @@ mod access;
 #[derive(Drop)]
 pub struct Cells {
     first: u16,
+    // Fixed memory for the most that the rules allow: no heap is needed.
     bytes: ArrayVec<u8, 512>,
 }
 

@@ -8,6 +8,7 @@ mod access;
 
 #[derive(Drop)]
 pub struct Ports {
+    // Fixed memory for the most addresses that the rules allow: they need no heap.
     inputs: ArrayVec<u16, 16>,
     outputs: ArrayVec<Output, 16>,
     samples: vec::IntoIter<u8>,

@@ -167,6 +167,7 @@ pub fn product(
 ) -> Result<Vec<Case>, AllocError> {
     let mut cases = Vec::new(heap);
     cases.push(start)?;
+    // Carried by hand: a fold would wrap the way out where no memory is left.
     for axis in axes {
         let mut varied = Vec::new(heap);
         for case in &cases {

@@ -35,7 +35,7 @@ fn compare_unlisted(heap: Global, tally: &mut Tally, opcode: u8) -> Result<(), F
 
 // Every opcode that no row has.
 pub(crate) fn no_instruction(heap: Global) -> Result<Tally, Failure> {
-    let mut tally = Tally::new();
+    let mut tally = Tally::default();
     for opcode in (0x00..=0xFF).filter(|opcode| !is_listed(*opcode)) {
         compare_unlisted(heap, &mut tally, opcode)?;
     }
@@ -44,7 +44,7 @@ pub(crate) fn no_instruction(heap: Global) -> Result<Tally, Failure> {
 
 // A code of no byte.
 pub(crate) fn empty_code(heap: Global) -> Result<Tally, Failure> {
-    let mut tally = Tally::new();
+    let mut tally = Tally::default();
     for ip in ADDRESSES {
         for first in ADDRESSES {
             for depth in DEPTHS {
@@ -64,7 +64,7 @@ pub(crate) fn empty_code(heap: Global) -> Result<Tally, Failure> {
 
 // A code of four bytes, with the instruction address right after it, right before it and farther off.
 pub(crate) fn outside_code(heap: Global) -> Result<Tally, Failure> {
-    let mut tally = Tally::new();
+    let mut tally = Tally::default();
     // Instructions of one, two and three bytes.
     for opcode in [0x3D, 0x71, 0x77] {
         for first in ADDRESSES {
@@ -86,7 +86,7 @@ pub(crate) fn outside_code(heap: Global) -> Result<Tally, Failure> {
 
 // Instructions of which a byte or two are missing at the end of the code.
 pub(crate) fn cut_instructions(heap: Global) -> Result<Tally, Failure> {
-    let mut tally = Tally::new();
+    let mut tally = Tally::default();
     let axes = [Axis::Address, Axis::Operand, Axis::Depth, Axis::Returns];
     for family in &FAMILIES {
         for opcode in family.first..=family.last {
@@ -118,7 +118,7 @@ fn compare_long(heap: Global, tally: &mut Tally, bytes: &[u8], first: u16) -> Re
 
 // A code of more bytes than a code area has, and one of more bytes than there are addresses.
 pub(crate) fn long_code(heap: Global) -> Result<Tally, Failure> {
-    let mut tally = Tally::new();
+    let mut tally = Tally::default();
     for size in [8200u32, 65540] {
         let bytes: Vec<u8> = (0..size)
             .map(|i| i.to_le_bytes()[0].wrapping_mul(37))

@@ -17,7 +17,8 @@ pub enum Failure {
     Output(#[from] io::Error),
 }
 
-// By hand, as a derive would keep the error, and the program, which ends by showing this, would show that too.
+// By hand, this and the next, as a derive would keep the error, and the program, which ends by showing this, would show that
+// too.
 impl From<AllocError> for Failure {
     fn from(_error: AllocError) -> Failure {
         Failure::NoMemory

@@ -50,7 +50,7 @@ fn board_of(heap: Global, layout: &Layout) -> Result<Split<Cells, Ports>, Failur
 }
 
 impl Side for MachineSide {
-    // A step looks at the limits and the fill byte of the settings alone.
+    // A step looks at the limits and the fill byte of the settings alone, so the other numbers may be any that settings allow.
     fn new(heap: Global, case: &Case) -> Result<MachineSide, Failure> {
         let (page, first, last) = (0xE000, 0x4000, 0x4FFF);
         Ok(MachineSide {

@@ -55,7 +55,7 @@ fn compare_product(
 
 // Compares the cases of a row.
 pub fn compare_row(heap: Global, family: &Family) -> Result<Tally, Failure> {
-    let mut tally = Tally::new();
+    let mut tally = Tally::default();
     for opcode in family.first..=family.last {
         compare_product(heap, &mut tally, family, opcode, &VALUES)?;
         compare_product(heap, &mut tally, family, opcode, &DEPTHS)?;

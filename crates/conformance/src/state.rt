@@ -32,7 +32,7 @@ pub struct State {
     pub ip: u16,
     pub cycles: u32,
     pub cells: Vec<u8>,
-    // The byte that each output keeps.
+    // The byte that each output keeps, in the order of `OUTPUTS`: both interpreters name the same, so the addresses are left out.
     pub outputs: Vec<Option<u8>>,
     // What the first input hands out next, if it can be read.
     pub sample: Option<u8>,

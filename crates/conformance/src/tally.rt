@@ -50,20 +50,13 @@ impl Counts {
     }
 }
 
-#[derive(Drop)]
+#[derive(Default, Drop)]
 pub struct Tally {
     pub counts: Counts,
     pub example: Option<Difference>,
 }
 
 impl Tally {
-    pub fn new() -> Tally {
-        Tally {
-            counts: Counts::default(),
-            example: None,
-        }
-    }
-
     // Counts a trial, and keeps the first at which the two are not as they should be. (The allocator is passed along, as the library
     // does, and kept nowhere.)
     fn count(

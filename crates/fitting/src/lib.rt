@@ -32,7 +32,7 @@ pub fn cells() -> Cells
 }
 
 // No more bytes of an input are looked at.
-const LONGEST: usize = 5634;
+pub const LONGEST: usize = 5634;
 
 #[tactic(auto, using(std::proofs::lemmas::List::take_min))]
 fn looked_at(input: &[u8]) -> &[u8]

@@ -80,7 +80,7 @@ impl Operand {
         }
     }
 
-    // Zero where there is none: a kind that asks has one, and an option would have to be opened at each.
+    // Zero where there is none, here and in the next: a kind that asks has one, and an option would have to be opened at each.
     pub fn byte(self) -> u8
         ensures { result ≡ operand_byte self }
     {

@@ -13,6 +13,8 @@ pub enum Target {
     Indexed(u8),
 }
 
+// Nothing, a read or a write: three cases that are taken apart together, where an option would be opened first at each use.
+// (`Memory` of the table and `Access` of the machine have the same three.)
 #[derive(Clone, Copy)]
 pub enum MemoryOperand {
     Nothing,

@@ -114,6 +114,8 @@ simply i s e d r a l k = record { stack = d; returns = r; access = a; learned = 
 -- what a kind does to both stacks is one of these after another
 ruleset framing = (rules, arith, as_on, cons_on, rest-on, grow_on, drop-on, set_on, still, offset-covers, indexed_covers, simply)
 
+-- three kinds are written out: of `PushDeep` and `Exchange` the search does not find which bytes stand on which, and `PopPointer` alone
+-- makes a pointer known
 frame : (k : Kind) (n : ℕ) (x : Operand) (b f : ℕ) (s : State) → n ≤ (row_of k).last - (row_of k).first →
     Framed (record { family = row_of k; number = n; operand = x }) s (effect k n x b f s)
 frame Not n x b f s h = search framing

@@ -34,6 +34,8 @@ impl Machine {
         self.carry = given.1;
     }
 
+    // This and the next two take TOS and leave a byte each; a function of the three would take a closure, and its contract would
+    // have to say what that answers.
     pub(crate) fn not(&mut self)
         requires { 0 < self.old.stack.depth }
         ensures { view self.new ≡ effect Not 0 Empty 0 0 (view self.old) }

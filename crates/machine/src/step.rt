@@ -15,7 +15,8 @@ use instruction::{Family, Instruction};
 use refusal::{Question, Refusal, ask};
 
 impl Machine {
-    // A refusal at the instruction's address.
+    // A refusal at the instruction's address. (The check of sheets has one of its own, at a row: the two
+    // differ in where the place stands.)
     fn refusal(&self, question: Question) -> Refusal
         ensures { result ≡ record { question = question; place = self.now.ip } }
     {

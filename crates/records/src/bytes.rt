@@ -18,7 +18,7 @@ pub fn record_at(sheet: &[u8], index: u8) -> &[u8]
     rest.get(..18).unwrap_or(rest)
 }
 
-// A byte; past the end, zero.
+// A byte; past the end, zero, as the definitions have it: what is asked before leaves no record cut short.
 pub fn byte_at(bytes: &[u8], at: usize) -> u8
     ensures { result ≡ slice_index bytes.now at }
 {

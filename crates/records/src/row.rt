@@ -65,7 +65,8 @@ impl<'a> Candidate<'a> {
         decode_at(self.code, row.offset)
     }
 
-    // Where the instruction of a row ends in the code.
+    // Where the instruction of a row ends in the code; a byte on where none stands, as the definition has it: such a row is
+    // refused.
     pub fn end(&self, row: Row) -> u32
         ensures value { result ≡ end_of (routine self.now) row }
         ensures past { row.offset < result }

@@ -41,7 +41,7 @@ pub enum Stop {
     NoMemory,
 }
 
-// By hand, as the contracts name the stop that each `?` makes, which a derive would leave unsaid.
+// By hand, this and the next two, as the contracts name the stop that each `?` makes, which a derive would leave unsaid.
 impl From<Fault> for Stop {
     ghost from_gives = { λ fault stop. stop ≡ Refused fault };
 

@@ -44,7 +44,8 @@ impl Memory {
         }
     }
 
-    /// Puts `byte` at `at`, or gives nothing, and changes nothing, where that cannot be written.
+    /// Puts `byte` at `at`, or gives nothing, and changes nothing, where that cannot be written. (An option, as in `read`: the one
+    /// reason has its name at the caller.)
     pub fn write(&mut self, at: u16, byte: u8) -> Option<()>
         ensures { IfNone result (self.new ≡ self.old) }
     {

@@ -59,7 +59,8 @@ impl Model {
         Ok(())
     }
 
-    /// Goes to `to` after an instruction that took `cycles`. (What stays is said at each of these, as each changes another part.)
+    /// Goes to `to` after an instruction that took `cycles`. (What stays is said at each of these, as each changes another part.
+    /// `taken`, `refused` and `no_memory` stand at each group of instructions, as `step` ends in any of them.)
     fn go(&mut self, to: u16, cycles: u32)
         ensures { (self.new.stack ≡ self.old.stack) × (self.new.returns ≡ self.old.returns) }
     {

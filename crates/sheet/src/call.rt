@@ -87,9 +87,8 @@ fn after_call(after: After, callee: Entry) -> After
     let rest = after.depth.saturating_sub(u16::from(callee.arguments));
     After {
         depth: rest + u16::from(callee.results),
-        returns: after.returns,
-        count: after.count,
         worst: callee.worst,
         known: UNKNOWN,
+        ..after
     }
 }

@@ -53,7 +53,8 @@ fn past(pointer: Option<u16>, first: u8, last: u8) -> Option<Addresses>
 }
 
 impl Layout<'_> {
-    // Does one window hold all these addresses, with at least this right?
+    // Does one window hold all these addresses, with at least this right? (The right stands beside the addresses, as in the
+    // definition: what is reached is found from the target alone.)
     pub fn has_window(&self, addresses: Addresses, right: Option<Right>) -> bool
         ensures { result ≡ any_pass (holds addresses.first addresses.last right) (routine self.now.candidate).windows }
     {

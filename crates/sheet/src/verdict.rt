@@ -25,6 +25,7 @@ fn judge_rows<'a, B: Board>(scene: &Scene<'a, B>) -> Result<Entry, Refusal>
 {
     let candidate = scene.candidate;
     let head = candidate.head;
+    // Zero where there is no row, as the format of sheets has it.
     ask(Question::RowIndex, 0, head.rows != 0)?;
     walk::<B, Row>(scene, head.rows)?;
     let first = read_record::<Row>(candidate.sheet, head.rows);

@@ -33,7 +33,8 @@ fn main(rt: HostRuntime) -> anyhow::Result<()> {
     let (fitted, worst) = spin(&settings, &board, code, sheet, times);
     let nanoseconds = start.elapsed(&rt)?.as_nanos();
     print!(rt; "{times} examinations, {fitted} fitted, worst {worst}")?;
-    // In two pieces, as the time is no part of what is compared.
+    // In two pieces, as the time is no part of what is compared. (Program `speed` ends so too: a function of both would be handed
+    // all that is printed.)
     if asked.is_some() {
         print!(rt; ", {nanoseconds} ns")?;
     }

@@ -22,7 +22,7 @@ const LOOP: &[u8; 36] = b"\
     \xb7\xc0\x00\x98\x00\x50\xa4\xd8\x01\xf7\xc0\x04\x88\x3f\xa4\xc8\x72\xee\
     \x81\x40\x82\x9c\xe4\xe4\x80\x41\x3d\x20\x71\xdc";
 
-// Cells below h'8000, and a port of each kind above.
+// Cells below h'8000, and a port of each kind above: the benchmark's own, as its settings are.
 fn board(heap: Global) -> Split<Cells, Ports> {
     Split {
         lower: Cells::new(0x5000, 512).unwrap(),
@@ -65,7 +65,8 @@ impl Benchmark {
         let cycles = machine.cycles;
         let ip = machine.ip;
         print!(rt; "{name}: {steps} steps, {cycles} cycles, at {ip:04X}")?;
-        // In two pieces, as the time is no part of what is compared.
+        // In two pieces, as the time is no part of what is compared. (Program `sheetspeed` ends so too: a function of both would be
+        // handed all that is printed.)
         if self.asked.is_some() {
             print!(rt; ", {nanoseconds} ns")?;
         }

@@ -12,6 +12,7 @@ where
     requires can { I.can_next items }
     requires ends { IsFinite (I.remaining items) }
 {
+    // The first by itself, as no blank stands before it, and a dash where there is none.
     let Some(first) = items.next() else {
         return write!(f, "-");
     };

@@ -11,6 +11,7 @@ const OUTPUTS: [u16; 4] = [0xC004, 0xC005, 0xC006, 0xC007];
 #[derive(Drop)]
 pub struct Run {
     settings: Settings,
+    // No `Code`, which borrows its bytes.
     code: Vec<u8>,
     first: u16,
     machine: Machine,
@@ -46,6 +47,7 @@ impl Run {
             if let Err(refusal) = self.machine.step(&self.settings, code, &mut self.board) {
                 return println!(rt; "STOPPED {refusal}");
             }
+            // After a step that was done there is one.
             if let Some(instruction) = found {
                 let encoding = Encoding(&instruction);
                 let disassembly = Disassembly(&instruction);
@@ -64,6 +66,7 @@ impl fmt::Display for Run {
         let pointers = Numbers::<u16, 4>(&self.machine.pointers);
         write!(f, "registers {registers}\npointers {pointers}\noutputs")?;
         for at in OUTPUTS {
+            // Each of these is an output, so there is a byte; no contract of this type says so, so this is no `unwrap`.
             let byte = self.board.upper.latest(at).unwrap_or(0);
             let cell = Cell { at, byte };
             write!(f, " {cell}")?;

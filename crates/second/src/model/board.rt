@@ -85,7 +85,7 @@ impl Model {
                 self.stack.remove(next);
                 self.pass(1, 6);
             }
-            // POP w
+            // POP w: as POP [p][n], written out, since each instruction here is read by itself
             0xF7 => {
                 self.ask(limits, Use::Drops(1, 1), Use::NONE)?;
                 let top = self.stack[self.stack.len() - 1];
