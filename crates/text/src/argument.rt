@@ -1,5 +1,5 @@
 // The first argument of a program, where it is a number of what the program counts.
-ghost use Rattle.std.specs.Prelude.{◌≡◌, ◌<◌, ◌^◌, Ok, Some, None, IfSome};
+ghost use Rattle.std.specs.Prelude.{◌≡◌, ◌<◌, ◌^◌, Ok, Some, None, IfSome, IfErr};
 ghost use Rattle.std.specs.Option.{IfNone};
 ghost use Rattle.std.specs.Result.{OkIff};
 ghost use Rattle.std.specs.String.{string_bytes};
@@ -32,6 +32,7 @@ pub fn count_argument(
 ) -> Result<Option<u32>, NoCount>
     ensures absent { IfNone argument (result ≡ Ok None) }
     ensures present { IfSome argument (λ text. OkIff result (IsNumeral 10 (string_bytes text) × (digits_value 10 (string_bytes text) < 2 ^ 32)) (Some (digits_value 10 (string_bytes text)))) }
+    ensures named { IfErr result (λ error. error.counted.now ≡ counted.now) }
 {
     argument
         .map(|text| decimal(text.as_bytes()).ok_or(NoCount { counted }))
