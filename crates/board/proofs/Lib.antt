@@ -1,3 +1,4 @@
+pub mod Cut
 mod Every
 pub mod Owned
 pub mod Outputs

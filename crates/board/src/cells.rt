@@ -1,5 +1,4 @@
 // Memory cells: up to 512 addresses from a first one, all readable, writable and held.
-use arrayvec::ArrayVec;
 use std::marker::Model;
 
 mod access;
@@ -7,18 +6,19 @@ mod access;
 #[derive(Drop)]
 pub struct Cells {
     first: u16,
-    // Fixed memory for the most that the rules allow: no heap is needed.
-    bytes: ArrayVec<u8, 512>,
+    // Fixed memory for the most that the rules allow, of which so many are cells: no heap is needed. (No `ArrayVec`: one of this size
+    // is filled and copied several times as it is made, which takes twice as long.)
+    count: u16,
+    bytes: [u8; 512],
 }
 
 impl Model for Cells {
-    ghost use Rattle.std.specs.Prelude.{◌+◌, ◌≤◌};
-    ghost use Rattle.arrayvec.specs.ArrayVec.{array_vec_len};
+    ghost use Rattle.std.specs.Prelude.{◌≡◌, ◌+◌, ◌≤◌, length, take};
     ghost use Rattle.board.specs.Cells.{Cells as Shown};
 
     ghost Value = { Shown };
 
-    ghost view = { λ c. record { first = c.first; bytes = c.bytes.items } };
+    ghost view = { λ c. record { first = c.first; bytes = take c.count c.bytes } };
 
-    ghost invariant = { λ c. c.first + array_vec_len c.bytes ≤ 65536 };
+    ghost invariant = { λ c. (c.count ≤ 512) × (c.first + c.count ≤ 65536) × (length c.bytes ≡ 512) };
 }

@@ -42,7 +42,8 @@ fn memory_of(heap: Global, layout: &Layout) -> Result<Memory, AllocError> {
         first: layout.first,
         cells: initial_bytes(heap, layout.count)?,
         inputs: Vec::from_slice(heap, &INPUTS)?,
-        samples: layout.samples.iter().copied().collect(heap)?,
+        samples: Vec::from_slice(heap, layout.samples)?,
+        taken: 0,
         outputs: outputs(heap)?,
     })
 }

@@ -5,6 +5,7 @@ use Rattle.board.specs.declared.Right.TheVariants.{Both}
 use Rattle.machine.specs.declared.settings.Settings.{Settings}
 use Rattle.records.specs.declared.window.Window.{Window}
 use Rattle.records.specs.declared.scene.Scene.{Scene}
+use Rattle.records.specs.Read.{right_of}
 use Rattle.records.specs.Routine.{Routine, Digest, digests_of, routine}
 
 pub record Ground : Type 0 where
@@ -16,7 +17,7 @@ pub record Ground : Type 0 where
 
 -- the board has the window's right at each of its addresses; where the window names no right, both
 abbrev pub may : {B : Type 0} → Meaning B → B → Window → Bool
-may m board w = spans m board (unwrap_or w.right Both) w.first w.last
+may m board w = spans m board (unwrap_or (right_of w.right) Both) w.first w.last
 
 abbrev pub ground : {B : Type 0} → Meaning B → Scene B → Ground
 ground m s = record {

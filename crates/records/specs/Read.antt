@@ -25,7 +25,7 @@ abbrev pub right_of : ℕ → Option Right
 right_of n = cond (n == 1) (Some Read) (cond (n == 2) (Some Write) (cond (n == 3) (Some Both) None))
 
 abbrev pub read_window : List ℕ → Window
-read_window r = record { first = word r 0; last = word r 2; right = right_of (slice_index r 4) }
+read_window r = record { first = word r 0; last = word r 2; right = slice_index r 4 }
 
 -- the value of a pointer whose bit is set in the marks; the value of another is not looked at
 abbrev pub marked : ℕ → ℕ → ℕ → Option ℕ

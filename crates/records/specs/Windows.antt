@@ -3,6 +3,7 @@ use Rattle.std.specs.Prelude.{ℕ, ◌+◌, Bool, true, ◌&&◌, ◌||◌, List
 use Rattle.refusal.specs.Questions.{Asked, ask}
 use Rattle.machine.specs.declared.settings.Settings.{Settings}
 use Rattle.records.specs.declared.window.Window.{Window}
+use Rattle.records.specs.Read.{right_of}
 use Rattle.records.specs.Ground.{Ground}
 
 -- above the window before
@@ -12,7 +13,7 @@ above (Some b) w = nat_lt b.last w.first
 
 -- the first address is not past the last, the record names a right, and the window is above the one before
 unfoldable pub shaped : Option Window → Window → Bool
-shaped before w = nat_le w.first w.last && (is_some w.right && above before w)
+shaped before w = nat_le w.first w.last && (is_some (right_of w.right) && above before w)
 
 -- clear of the addresses from a first to a last
 abbrev pub clear_of : ℕ → ℕ → Window → Bool

@@ -19,23 +19,23 @@ use refusal::{Question, Refusal, ask};
 pub struct Window {
     pub first: u16,
     pub last: u16,
-    // A record that has not been judged may name none.
-    pub right: Option<Right>,
-}
-
-// The right that a number in a record names. (No `TryFrom`: the numbers are those of a record, and not the board's.)
-fn right_of(number: u8) -> Option<Right>
-    ensures { result ≡ right_of number }
-{
-    match number {
-        1 => Some(Right::Read),
-        2 => Some(Right::Write),
-        3 => Some(Right::Both),
-        _ => None,
-    }
+    // The byte of the record: 1 to read, 2 to write, 3 both. Any other names no right, and such a window is refused.
+    pub right: u8,
 }
 
 impl Window {
+    // The right that its byte names. (No `TryFrom`: the numbers are those of a record, and not the board's.)
+    pub fn named_right(&self) -> Option<Right>
+        ensures { result ≡ right_of self.now.right }
+    {
+        match self.right {
+            1 => Some(Right::Read),
+            2 => Some(Right::Write),
+            3 => Some(Right::Both),
+            _ => None,
+        }
+    }
+
     fn is_above(&self, before: Option<Window>) -> bool
         ensures { result ≡ above before self.now }
     {
@@ -47,7 +47,7 @@ impl Window {
         ensures value { result ≡ shaped before self.now }
         ensures rises { T result → low (λ (w : Window). w.last) before ≤ self.now.last }
     {
-        self.first <= self.last && self.right.is_some() && self.is_above(before)
+        self.first <= self.last && self.named_right().is_some() && self.is_above(before)
     }
 
     // The two ends come from settings, which keep them apart.
@@ -91,7 +91,7 @@ impl Record for Window {
         Window {
             first: word_at(bytes, 0),
             last: word_at(bytes, 2),
-            right: right_of(byte_at(bytes, 4)),
+            right: byte_at(bytes, 4),
         }
     }
 }
@@ -113,7 +113,7 @@ impl<B: Board> Judged<B> for Window {
         let unreserved = self.is_unreserved(scene.settings);
         ask(Question::WindowReserved, place, unreserved)?;
         // A window that gets here names a right; of any other both would be asked.
-        let right = self.right.unwrap_or(Right::Both);
+        let right = self.named_right().unwrap_or(Right::Both);
         let may = scene.board.may(right, self.first, self.last);
         ask(Question::WindowDenied, place, may)
     }

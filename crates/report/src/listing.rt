@@ -74,7 +74,7 @@ impl fmt::Display for Known {
 
 // A right in words.
 fn right_of(window: Window) -> &'static str {
-    match window.right {
+    match window.named_right() {
         Some(Right::Read) => "read",
         Some(Right::Write) => "write",
         Some(Right::Both) => "read and write",

@@ -1,8 +1,6 @@
 // The memory cells and the ports that the instructions reach.
 ghost use Rattle.std.specs.Prelude.{◌≡◌, IfNone};
 
-use std::collections::VecDeque;
-
 /// An address that can be written at the ports, and the byte that was last written to it.
 #[derive(Clone, Copy)]
 pub struct Output {
@@ -20,8 +18,10 @@ pub struct Memory {
     pub cells: Vec<u8>,
     /// The addresses that can be read at the ports.
     pub inputs: Vec<u16>,
-    /// What reads at the ports still get, one byte for each, and zeros after the last.
-    pub samples: VecDeque<u8>,
+    /// What reads at the ports get, one byte for each, and zeros after the last.
+    pub samples: Vec<u8>,
+    /// How many of the samples have been handed out. (Of a queue that is emptied it could not be told.)
+    pub taken: usize,
     pub outputs: Vec<Output>,
 }
 
@@ -38,7 +38,11 @@ impl Memory {
         if let Some(place) = self.place(at) {
             self.cells.get(place).copied()
         } else if self.inputs.contains(&at) {
-            Some(self.samples.pop_front().unwrap_or(0))
+            let Some(sample) = self.samples.get(self.taken).copied() else {
+                return Some(0);
+            };
+            self.taken += 1;
+            Some(sample)
         } else {
             None
         }

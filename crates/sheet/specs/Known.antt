@@ -5,6 +5,7 @@ use Rattle.board.specs.declared.Right.{Right}
 use Rattle.board.specs.declared.Right.TheVariants.{Read, Write, Both}
 use Rattle.instruction.specs.Claim.{Knows, Span, unsure, from_to, Claim, nothing, reading, writing}
 use Rattle.records.specs.declared.window.Window.{Window}
+use Rattle.records.specs.Read.{right_of}
 use Rattle.records.specs.Lists.{any_pass}
 
 -- a right grants itself, and both grants each
@@ -16,11 +17,11 @@ grants _ _ = false
 
 -- the window holds all addresses from a first to a last, with at least this right
 abbrev pub holds : ℕ → ℕ → Option Right → Window → Bool
-holds first last right w = nat_le w.first first && (nat_le last w.last && grants w.right right)
+holds first last right w = nat_le w.first first && (nat_le last w.last && grants (right_of w.right) right)
 
 -- the window v lies in w, which has at least its right
 abbrev pub within : Window → Window → Bool
-within v w = holds v.first v.last v.right w
+within v w = holds v.first v.last (right_of v.right) w
 
 -- each window of the first list lies in one of the second
 abbrev pub narrower : List Window → List Window → Bool

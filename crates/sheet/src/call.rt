@@ -31,7 +31,7 @@ impl Layout<'_> {
             first: w.first,
             last: w.last,
         };
-        self.has_window(addresses, w.right)
+        self.has_window(addresses, w.named_right())
     }
 
     // Does each of a called routine's windows lie in one of ours?

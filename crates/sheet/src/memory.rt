@@ -36,7 +36,9 @@ fn grants(own: Option<Right>, wanted: Option<Right>) -> bool
 fn is_in(addresses: Addresses, right: Option<Right>, window: Window) -> bool
     ensures { result ≡ holds addresses.first addresses.last right window }
 {
-    window.first <= addresses.first && addresses.last <= window.last && grants(window.right, right)
+    window.first <= addresses.first
+        && addresses.last <= window.last
+        && grants(window.named_right(), right)
 }
 
 // From a pointer on, if it is known and none of the addresses is past the end.

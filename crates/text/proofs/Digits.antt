@@ -14,11 +14,8 @@ ascii_of_digits radix (c ∷ cs) l h (suc i) = ascii_of_digits radix cs l h.1 i
 pub text_of_digits : (radix : ℕ) (ds : List ℕ) → radix ≤ 36 → AllDigits radix ds → IsUtf8 ds
 text_of_digits radix ds l h = IsUtf8-from_ascii ds (ascii_of_digits radix ds l h)
 
-pub value_of_digits : (n : ℕ) (ds : List ℕ) → IsNumeral 16 ds → length ds ≤ n → digits_value 16 ds < 16 ^ n
+value_of_digits : (n : ℕ) (ds : List ℕ) → IsNumeral 16 ds → length ds ≤ n → digits_value 16 ds < 16 ^ n
 value_of_digits n ds h l = let most : 16 ^ length ds ≤ 16 ^ n = pow-le-pow_right (omega arith) l in omega (arith, digits_value-lt 16 ds h.1)
-
-pub value_of_two : (ds : List ℕ) → IsNumeral 16 ds → length ds ≤ 2 → digits_value 16 ds < 256
-value_of_two = value_of_digits 2
 
 pub value_of_four : (ds : List ℕ) → IsNumeral 16 ds → length ds ≤ 4 → digits_value 16 ds < 65536
 value_of_four = value_of_digits 4

@@ -37,12 +37,14 @@ pub fn decimal(text: &[u8]) -> Option<u32>
     number(text, 10)
 }
 
-// A byte of two hexadecimal digits.
-#[tactic(auto, using(crate::proofs::Digits::value_of_two))]
+// A byte of two hexadecimal digits. (Digit by digit: a long line is read through here, and `number` makes a text of each pair first.)
 fn byte(pair: &[u8; 2]) -> Option<u8>
     ensures { SomeIff result (IsNumeral 16 pair.now) (digits_value 16 pair.now) }
 {
-    u8::try_from(number(pair, 16)?).ok()
+    let [high, low] = *pair;
+    let high = char::from(high).to_digit(16)?;
+    let low = char::from(low).to_digit(16)?;
+    Some((16 * high + low) as u8)
 }
 
 // Bytes of two hexadecimal digits each, with or without blanks between them.

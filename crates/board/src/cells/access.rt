@@ -1,24 +1,26 @@
-ghost use Rattle.std.specs.Prelude.{◌≡◌, ◌+◌, ◌-◌, ◌≤◌, [], ◌∷◌, length, replicate, IfOk, if◌then◌else◌, Some, None, is_some};
+ghost use Rattle.std.specs.Prelude.{◌≡◌, ◌+◌, ◌-◌, ◌<◌, ◌≤◌, [], ◌∷◌, length, replicate, IfOk, if◌then◌else◌, Some, None, is_some};
 ghost use Rattle.refusal.specs.Questions.{verdict_of, first_no, ask as asked};
-ghost use Rattle.board.specs.Cells.{owns, owns_ends, cells_meaning, cells_fit, NewCells};
+ghost use Rattle.board.specs.Cells.{owns, owns_ends, with_byte, cells_meaning, cells_fit, NewCells};
 ghost use Rattle.std.proofs.Common.{rules};
 
 use super::Cells;
 use crate::{Board, Right, denied};
-use arrayvec::ArrayVec;
 use refusal::{Question, Refusal, ask};
 
-// So many zeros.
-fn zeros(count: u16) -> ArrayVec<u8, 512>
-    requires { count ≤ 512 }
-    ensures { result.items ≡ replicate count 0 }
-{
-    let mut bytes = ArrayVec::from([0; 512]);
-    bytes.truncate(usize::from(count));
-    bytes
-}
-
 impl Cells {
+    // Cells that are known to fit.
+    fn blank(first: u16, count: u16) -> Cells
+        requires few { count ≤ 512 }
+        requires inside { first + count ≤ 65536 }
+        ensures { NewCells first count result }
+    {
+        Cells {
+            first,
+            count,
+            bytes: [0; 512],
+        }
+    }
+
     // So many cells from a first address, all zero.
     pub fn new(first: u16, count: u16) -> Result<Cells, Refusal>
         ensures verdict { verdict_of result ≡ first_no (asked 4 0 (cells_fit first count) ∷ []) }
@@ -26,10 +28,7 @@ impl Cells {
     {
         let inside = u32::from(first) + u32::from(count) <= 65536;
         ask(Question::BoardShape, 0, count <= 512 && inside)?;
-        Ok(Cells {
-            first,
-            bytes: zeros(count),
-        })
+        Ok(Cells::blank(first, count))
     }
 
     // The first address, and the bytes from there on.
@@ -39,7 +38,7 @@ impl Cells {
         ensures few { length result.1.now ≤ 512 }
         ensures inside { result.0 + length result.1.now ≤ 65536 }
     {
-        (self.first, &self.bytes)
+        (self.first, &self.bytes[..usize::from(self.count)])
     }
 
     // The place of an address among the bytes.
@@ -47,13 +46,20 @@ impl Cells {
         ensures { result ≡ (if owns self.now at then Some (at - self.now.first) else None) }
     {
         let place = usize::from(at.checked_sub(self.first)?);
-        (place < self.bytes.len()).then_some(place)
+        (place < usize::from(self.count)).then_some(place)
     }
 
     fn owns(&self, at: u16) -> bool
         ensures { result ≡ owns self.now at }
     {
         self.place(at).is_some()
+    }
+
+    fn set(&mut self, place: usize, byte: u8)
+        requires { place < length self.old.bytes }
+        ensures { self.new ≡ with_byte self.old place byte }
+    {
+        self.bytes[place] = byte;
     }
 
     // Whether both ends are cells, where there is an address between them.
@@ -81,7 +87,7 @@ impl Board for Cells {
 
     fn write(&mut self, at: u16, byte: u8) -> Result<(), Refusal> {
         let place = self.place(at).ok_or(denied(at))?;
-        self.bytes[place] = byte;
+        self.set(place, byte);
         Ok(())
     }
 }

@@ -1,4 +1,4 @@
-ghost use Rattle.std.specs.Prelude.{◌≡◌, ℕ, [], ◌∷◌, IfOk, if◌then◌else◌, Some, Ok, Err, OnOk, nat_eq, ◌<◌, true, false, length, MatchOption};
+ghost use Rattle.std.specs.Prelude.{◌≡◌, ℕ, [], ◌∷◌, IfOk, if◌then◌else◌, Some, Ok, Err, OnOk, nat_eq, ◌<◌, ◌≤◌, true, false, length, MatchOption};
 ghost use Rattle.std.specs.List.{position_or_len, list_any};
 ghost use Rattle.refusal.specs.Questions.{verdict_of, first_no, ask as asked};
 ghost use Rattle.board.specs.Meaning.{allowed, denied};
@@ -11,6 +11,7 @@ use super::{Output, Ports};
 use crate::{Board, Right, denied};
 use arrayvec::ArrayVec;
 use refusal::{Question, Refusal};
+use std::collections::VecDeque;
 
 // Whether no address stands twice.
 fn is_distinct(list: &[u16]) -> bool
@@ -46,13 +47,15 @@ impl Ports {
         Ok(Ports {
             inputs,
             outputs: silent,
-            samples: samples.into_iter(),
+            samples: VecDeque::from_vec(samples),
         })
     }
 
     // The byte that an output keeps.
     pub fn latest(&self, at: u16) -> Option<u8>
-        ensures { result ≡ latest_of self.now at }
+        ensures value { result ≡ latest_of self.now at }
+        ensures few_inputs { length self.now.inputs ≤ 16 }
+        ensures few_outputs { length self.now.outputs ≤ 16 }
     {
         self.outputs
             .iter()
@@ -105,7 +108,7 @@ impl Board for Ports {
         if !self.has_input(at) {
             return Err(denied(at));
         }
-        Ok(self.samples.next().unwrap_or(0))
+        Ok(self.samples.pop_front().unwrap_or(0))
     }
 
     // The output keeps this byte, and every other keeps its own.
