@@ -3,20 +3,24 @@ ghost use Rattle.std.specs.Prelude.{◌≡◌, ◌<◌, ◌≤◌, ◌^◌, leng
 ghost use Rattle.std.specs.Str.Parse.{IsNumeral, digits_value};
 
 use std::alloc::{AllocError, Global};
-use std::str;
 
-// Digits in a radix, of a number below 2^32.
-#[tactic(auto, using(crate::proofs::Digits::text_of_digits))]
+// Digits in a radix, of a number below 2^32. The first that is none, or that makes the number too large, ends the reading.
 fn number(text: &[u8], radix: u32) -> Option<u32>
     requires lower_bound { 2 ≤ radix }
     requires upper_bound { radix ≤ 36 }
     ensures { SomeIff result (IsNumeral radix text.now × (digits_value radix text.now < 2 ^ 32)) (digits_value radix text.now) }
 {
-    let digits = str::from_utf8(text).ok()?;
-    if digits.starts_with('+') {
+    if text.is_empty() {
         return None;
     }
-    u32::from_str_radix(digits, radix).ok()
+    let mut value = 0u32;
+    let mut digits = text;
+    while let [first, rest @ ..] = digits {
+        let digit = char::from(*first).to_digit(radix)?;
+        value = value.checked_mul(radix)?.checked_add(digit)?;
+        digits = rest;
+    }
+    Some(value)
 }
 
 // One to four hexadecimal digits.
@@ -37,30 +41,31 @@ pub fn decimal(text: &[u8]) -> Option<u32>
     number(text, 10)
 }
 
-// A byte of two hexadecimal digits. (Digit by digit: a long line is read through here, and `number` makes a text of each pair first.)
+// A byte of two hexadecimal digits.
+#[tactic(auto, using(crate::proofs::Digits::value_of_two))]
 fn byte(pair: &[u8; 2]) -> Option<u8>
     ensures { SomeIff result (IsNumeral 16 pair.now) (digits_value 16 pair.now) }
 {
-    let [high, low] = *pair;
-    let high = char::from(high).to_digit(16)?;
-    let low = char::from(low).to_digit(16)?;
-    Some((16 * high + low) as u8)
+    u8::try_from(number(pair, 16)?).ok()
 }
 
 // Bytes of two hexadecimal digits each, with or without blanks between them.
 pub fn bytes(heap: Global, text: &[u8]) -> Result<Option<Vec<u8>>, AllocError> {
-    // Loops, since a wrong digit and memory that runs out are two answers, and a chain that collects carries one.
     let mut found = Vec::new(heap);
-    for digits in text.split(|byte| *byte == b' ') {
-        let (pairs, []) = digits.as_chunks::<2>() else {
-            return Ok(None);
+    let mut left = text;
+    // A loop, since a wrong digit and memory that runs out are two answers, and a chain that collects carries one.
+    while let [first, after @ ..] = left {
+        left = match (first, after) {
+            (b' ', _) => after,
+            (high, [low, rest @ ..]) => {
+                let Some(byte) = byte(&[*high, *low]) else {
+                    return Ok(None);
+                };
+                found.push(byte)?;
+                rest
+            }
+            _ => return Ok(None),
         };
-        for pair in pairs {
-            let Some(byte) = byte(pair) else {
-                return Ok(None);
-            };
-            found.push(byte)?;
-        }
     }
     Ok(Some(found))
 }
