@@ -17,7 +17,8 @@ fn number(text: &[u8], radix: u32) -> Option<u32>
     let mut digits = text;
     while let [first, rest @ ..] = digits {
         let digit = char::from(*first).to_digit(radix)?;
-        value = value.checked_mul(radix)?.checked_add(digit)?;
+        let more = u64::from(value) * u64::from(radix) + u64::from(digit);
+        value = u32::try_from(more).ok()?;
         digits = rest;
     }
     Some(value)

@@ -4,17 +4,13 @@ use Rattle.std.proofs.lemmas.Bool.{cases_lt}
 use Rattle.text.proofs.Digits.{too_large, all_read}
 use Rattle.text.proofs.numbers.number.Goals as goal
 
-pub returns-in_err-checked_mul : goal.returns-in_err-checked_mul
-returns-in_err-checked_mul c =
-    let much : 4294967296 ≤ c.loop-digits.value * c.args.radix = ⊎_elim (λ (k : c.loop-digits.value * c.args.radix < 4294967296). absurd (c.in_err-checked_mul.ensures k)) (λ k. k) (cases_lt (c.loop-digits.value * c.args.radix) 4294967296) in
-    rw c.from_residual-in_err-checked_mul.ensures (λ p. too_large c.args.radix c.loop-digits.value c.args.text.now c.loop-digits.digits.now c.requires.lower_bound c.loop-digits.invariant c.in-len1-up.len_at_least (omega (arith, much)) p)
+pub returns : goal.returns
+returns c = all_read c.args.radix c.loop-digits.value c.args.text.now c.loop-digits.digits.now c.loop-digits.invariant c.in_default.len_below (search rules)
 
 pub returns-in_err-value : goal.returns-in_err-value
 returns-in_err-value c =
-    let much : 4294967296 ≤ c.in_ok-checked_mul.field-0 + c.in_ok-digit.digit = ⊎_elim (λ (k : c.in_ok-checked_mul.field-0 + c.in_ok-digit.digit < 4294967296). absurd (c.in_err-value.ensures k)) (λ k. k) (cases_lt (c.in_ok-checked_mul.field-0 + c.in_ok-digit.digit) 4294967296) in
-    let product : c.in_ok-checked_mul.field-0 ≡ c.loop-digits.value * c.args.radix = search rules in
     let digit : c.in_ok-digit.digit ≡ digit_value (get_or c.loop-digits.digits.now 0 0) = search rules in
-    rw c.from_residual-in_err-value.ensures (λ p. too_large c.args.radix c.loop-digits.value c.args.text.now c.loop-digits.digits.now c.requires.lower_bound c.loop-digits.invariant c.in-len1-up.len_at_least (omega (arith, much, product, digit)) p)
-
-pub returns : goal.returns
-returns c = all_read c.args.radix c.loop-digits.value c.args.text.now c.loop-digits.digits.now c.loop-digits.invariant c.in_default.len_below (search rules)
+    let much : 4294967296 ≤ c.loop-digits.value * c.args.radix + c.in_ok-digit.digit =
+    ⊎_elim (λ (k : c.loop-digits.value * c.args.radix + c.in_ok-digit.digit < 4294967296). absurd (search rules)) (λ k. k)
+    (cases_lt (c.loop-digits.value * c.args.radix + c.in_ok-digit.digit) 4294967296) in
+    rw c.from_residual-in_err-value.ensures (λ p. too_large c.args.radix c.loop-digits.value c.args.text.now c.loop-digits.digits.now c.requires.lower_bound c.loop-digits.invariant c.in-len1-up.len_at_least (omega (arith, much, digit)) p)
